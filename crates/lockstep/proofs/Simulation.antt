@@ -1,0 +1,108 @@
+-- Two systems in lockstep have the same runs.
+use Rattle.std.proofs.Common.{◌≡◌, ◌≢◌, ℕ, zero, suc, ◌+◌, ◌*◌, ◌≤◌, List, inl, inr, sym, ap, ◌∙◌, arith}
+use Rattle.lockstep.specs.Runs.{Next, Goes, Ends, Fate, Stops, Sticks, after, View, Running, Stopped, Stuck, machine_view, target_view, HasOutput, IsSeenIn, Same}
+use Rattle.lockstep.specs.Meets.{Meets, met, more, next_out, Matches, IsOnTheWay, InLockstep}
+use Rattle.lockstep.proofs.Stretches.{come}
+
+module _ (A C S : Type 0) (mstep : A → Next A S) (cstep : C → Next C (Fate S)) (mout : A → List ℕ) (cout : C → List ℕ) (R : A → C → Type 0) where
+  -- what the machine shows n steps after x, and the target k steps after z
+  abbrev machine_at : ℕ → Next A S → View S
+  machine_at n x = machine_view mout (after mstep n x)
+
+  abbrev target_at : ℕ → Next C (Fate S) → View S
+  target_at k z = target_view cout (after cstep k z)
+
+  abbrev OnTheWay : A → C → Type 0
+  OnTheWay a c = IsOnTheWay mstep mout cout a c
+
+  -- what the target shows k steps after z, the machine shows at most m steps after x
+  abbrev IsSeenWithin : ℕ → ℕ → Next A S → Next C (Fate S) → Type 0
+  IsSeenWithin m k x z = (n : ℕ) × (n ≤ m) × IsSeenIn (target_at k z) (machine_at n x)
+
+  module _ (b bound : ℕ) (below : suc b ≤ bound) (a0 : A) (c0 : C) (h : InLockstep mstep cstep mout cout R b a0 c0) where
+    -- matching places look alike
+    alike : (x : Next A S) (z : Next C (Fate S)) → Matches R x z → target_view cout z ≡ machine_view mout x
+    alike (Goes a) (Goes c) r = ap Running (h.same_out a c r)
+    alike (Goes a) (Ends p e) r = absurd r
+    alike (Ends o s) (Goes c) r = absurd r
+    alike (Ends o s) (Ends p (Stops t)) r = let e : p ≡ o = r.0 in let f : t ≡ s = r.1 in cc
+    alike (Ends o s) (Ends p (Sticks item)) r = absurd r
+
+    -- from matching places the target follows the machine
+    follow : (n : ℕ) (x : Next A S) (z : Next C (Fate S)) → Matches R x z → (k : ℕ) × (k ≤ bound * n) × (target_at k z ≡ machine_at n x)
+    follow zero x z r = (0, omega arith, alike x z r)
+    follow (suc n) (Goes a) (Goes c) r =
+        let m = come cstep (OnTheWay a) (Matches R (mstep a)) (h.step a c r) in
+        let f = follow n (mstep a) m.to m.holds in
+        (suc (m.count + f.0), omega (arith, m.within, f.1), ap (target_view cout) (m.goes_on f.0) ∙ f.2)
+    follow (suc n) (Goes a) (Ends p e) r = absurd r
+    follow (suc n) (Ends o s) (Goes c) r = absurd r
+    follow (suc n) (Ends o s) (Ends p (Stops t)) r = (0, omega arith, alike (Ends o s) (Ends p (Stops t)) r)
+    follow (suc n) (Ends o s) (Ends p (Sticks item)) r = absurd r
+
+    -- what the target shows at a matching place, the machine shows
+    seen : (x : Next A S) (z : Next C (Fate S)) → Matches R x z → IsSeenIn (target_view cout z) (machine_view mout x)
+    seen (Goes a) (Goes c) r = sym (h.same_out a c r)
+    seen (Goes a) (Ends p e) r = absurd r
+    seen (Ends o s) (Goes c) r = absurd r
+    seen (Ends o s) (Ends p (Stops t)) r = let e : p ≡ o = r.0 in let f : t ≡ s = r.1 in cc
+    seen (Ends o s) (Ends p (Sticks item)) r = absurd r
+
+    -- k steps after a place on the way of the machine's step from a, and k steps after matching places
+    abbrev Between : ℕ → Type 0
+    Between k = (a : A) (m : ℕ) (z : Next C (Fate S)) → Meets cstep (OnTheWay a) (Matches R (mstep a)) m z → IsSeenWithin (k + 1) k (Goes a) z
+
+    abbrev Matched : ℕ → Type 0
+    Matched k = (x : Next A S) (z : Next C (Fate S)) → Matches R x z → IsSeenWithin k k x z
+
+    matched_zero : Matched zero
+    matched_zero x z r = (0, omega arith, seen x z r)
+
+    matched_suc : (k : ℕ) → Between k → Matched (suc k)
+    matched_suc k on (Goes a) (Goes c) r = let g = on a b (cstep c) (h.step a c r) in (g.0, omega (arith, g.1), g.2)
+    matched_suc k on (Goes a) (Ends p e) r = absurd r
+    matched_suc k on (Ends o s) (Goes c) r = absurd r
+    matched_suc k on (Ends o s) (Ends p (Stops t)) r = (0, omega arith, seen (Ends o s) (Ends p (Stops t)) r)
+    matched_suc k on (Ends o s) (Ends p (Sticks item)) r = absurd r
+
+    -- an output on the way is the machine's before the step or after it
+    output_after : (x : Next A S) (out : List ℕ) → out ≡ next_out mout x → HasOutput (machine_view mout x) out
+    output_after (Goes a) out e = sym e
+    output_after (Ends o s) out e = sym e
+
+    seen_on_the_way : (a : A) (c : C) → OnTheWay a c → IsSeenWithin 1 0 (Goes a) (Goes c)
+    seen_on_the_way a c (inl e) = (0, omega arith, sym e)
+    seen_on_the_way a c (inr e) = (1, omega arith, output_after (mstep a) (cout c) e)
+
+    between : (k : ℕ) → Between k
+    between zero a m z (met q) = let g = matched_zero (mstep a) z q in (suc g.0, omega (arith, g.1), g.2)
+    between zero a m z (more {a = c} le p rest) = seen_on_the_way a c p
+    between (suc k) a m z (met q) = let g = matched_suc k (between k) (mstep a) z q in (suc g.0, omega (arith, g.1), g.2)
+    between (suc k) a m z (more {a = c} le p rest) = let g = between k a _ (cstep c) rest in (g.0, omega (arith, g.1), g.2)
+
+    matched : (k : ℕ) → Matched k
+    matched zero = matched_zero
+    matched (suc k) = matched_suc k (between k)
+
+    -- the same from a place before the target has reached the machine's start
+    before : (k m : ℕ) (z : Next C (Fate S)) → Meets cstep (λ c. cout c ≡ mout a0) (Matches R (Goes a0)) m z → IsSeenWithin k k (Goes a0) z
+    before k m z (met q) = matched k (Goes a0) z q
+    before zero m z (more {a = c} le p rest) = (0, omega arith, sym p)
+    before (suc k) m z (more {a = c} le p rest) = let g = before k _ (cstep c) rest in (g.0, omega (arith, g.1), g.2)
+
+    -- what is seen is not stuck
+    seen_not_stuck : (v w : View S) → IsSeenIn v w → v ≢ Stuck
+    seen_not_stuck (Running o) w i = λ e. cc
+    seen_not_stuck (Stopped o s) w i = λ e. cc
+    seen_not_stuck Stuck w i = absurd i
+
+    -- the runs from a0 and from c0 are the same, for every bound above b
+    pub lockstep_runs : Same bound (λ n. machine_view mout (after mstep n (Goes a0))) (λ k. target_view cout (after cstep k (Goes c0)))
+    lockstep_runs = record {
+      follows = λ n.
+          let m = come cstep (λ c. cout c ≡ mout a0) (Matches R (Goes a0)) h.start in
+          let f = follow n (Goes a0) m.to m.holds in
+          (m.count + f.0, omega (arith, m.within, f.1), ap (target_view cout) (m.goes_on f.0) ∙ f.2);
+      only = λ k. let g = before k (suc b) (Goes c0) h.start in (g.0, omega (arith, g.1), g.2);
+      never_stuck = λ k. let g = before k (suc b) (Goes c0) h.start in seen_not_stuck _ _ g.2;
+    }
