@@ -1,0 +1,9 @@
+pub mod Counts
+pub mod Told
+pub mod Files
+pub mod Input
+pub mod Output
+pub mod Failing
+pub mod StoreState
+pub mod SourceState
+pub mod SinkState
