@@ -1,0 +1,4 @@
+pub mod Longest
+pub mod Steps
+pub mod Blanks
+pub mod Words
