@@ -1,6 +1,10 @@
 -- A lexer's steps from left to right.
-use Rattle.std.proofs.Common.{◌≡◌, ℕ, ◌-◌, ◌<◌, Bool, true, false, zero, suc, List, [], ◌∷◌, ◌++◌, length, drop, get_or, Option, Some, None, Result, Ok, Err, refl, sym, ap, arith, append_assoc}
-use Rattle.scan.specs.Scan.{front, told, lex}
+use Rattle.std.proofs.Common.{◌≡◌, ℕ, ◌-◌, ◌<◌, Bool, true, false, zero, suc, List, [], ◌∷◌, ◌++◌, length, take, drop, get_or, Option, Some, None, Result, Ok, Err, refl, sym, ap, ◌∙◌, arith, append_assoc}
+use Rattle.std.specs.Prelude.{slice_get}
+use Rattle.std.proofs.Math.Seq.{drop-length}
+use Rattle.std.proofs.lemmas.List.{take_all}
+use Rattle.std.proofs.lemmas.Option.{slice_get_past}
+use Rattle.scan.specs.Scan.{longer, longest, front, told, lex}
 
 module _ {T : Type 0} where
   pub told_nil : (r : Result (List T) ℕ) → told [] r ≡ r
@@ -37,3 +41,14 @@ module _ {T : Type 0} (token_of : List ℕ → Option ℕ → Option T) (is_blan
   unfolding lex
   lex_none [] l h e = absurd (omega arith)
   lex_none (b ∷ bs) l h e = rw (h, e) refl
+
+  -- a word that is a token by itself
+  pub lex_word : (w : List ℕ) (t : T) → 0 < length w → is_blank (get_or w 0 0) ≡ false → token_of w None ≡ Some t → lex token_of is_blank 0 w ≡ Ok (t ∷ [])
+  unfolding lex longest
+  lex_word [] t l h e = absurd (omega arith)
+  lex_word (b ∷ bs) t l h e =
+      let n : ℕ = length bs in
+      let word : take n bs ≡ bs = take_all n bs (omega arith) in
+      let past : slice_get (b ∷ bs) (suc n) ≡ None = slice_get_past (b ∷ bs) (suc n) (omega arith) in
+      let here : front token_of (b ∷ bs) ≡ Some (suc n, t) = ap (λ o. longer o (suc n) (longest token_of n (b ∷ bs))) ((λ i. token_of (b ∷ word i) (past i)) ∙ e) in
+      lex_token (b ∷ bs) (suc n) t l (omega arith) h here ∙ ap (λ r. told (t ∷ []) (lex token_of is_blank 0 r)) (drop-length bs)

@@ -1,0 +1,9 @@
+pub mod SignSearch
+pub mod DigitValues
+pub mod Fronts
+pub mod TokenLaws
+pub mod LineEnds
+pub mod ReadingLaws
+pub mod Passes
+pub mod Spelled
+pub mod WrittenLines
