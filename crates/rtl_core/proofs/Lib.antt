@@ -1,0 +1,17 @@
+pub mod TermLaws
+pub mod GroundLaws
+pub mod Kept
+pub mod FitCells
+pub mod ServiceFits
+pub mod Ranges
+pub mod Fits
+pub mod NameLemmas
+pub mod TemplateTermLaws
+pub mod InductTExpr
+pub mod GroundPlaces
+pub mod GroundExprs
+pub mod GroundsSound
+pub mod ByteLaws
+pub mod AccessLaws
+pub mod ArithmeticLaws
+pub mod Rows
