@@ -1,0 +1,3 @@
+pub mod StandingSound
+pub mod StepLaws
+pub mod SmallRuns

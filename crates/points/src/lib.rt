@@ -1,0 +1,11 @@
+//! The control of described machines, and the machine as a run.
+#![tactic(auto)]
+
+ghost use Rattle.points.specs.SmallMachine.{ExitsWithThree};
+
+pub use rtl_core::{Point, Slot};
+
+/// A program of three instructions, run by the machine's definitions alone.
+pub fn small_program_exits()
+    ensures { ExitsWithThree }
+{}
