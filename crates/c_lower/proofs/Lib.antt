@@ -1,0 +1,14 @@
+pub mod Numbers
+pub mod Operators
+pub mod Steps
+pub mod Frames
+pub mod Traps
+pub mod Expressions
+pub mod Agreement
+pub mod Appends
+pub mod Bounds
+pub mod Windows
+pub mod Acts
+pub mod Tidy
+pub mod TidyActs
+pub mod Names

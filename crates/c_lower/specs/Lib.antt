@@ -1,0 +1,9 @@
+pub mod Contract
+pub mod Cells
+pub mod Formula
+pub mod Code
+pub mod Lowered
+pub mod Accounts
+pub mod Naming
+pub mod Tidy
+pub mod Theorem

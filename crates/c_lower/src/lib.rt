@@ -1,0 +1,17 @@
+//! The statements of one instruction.
+#![tactic(auto)]
+
+ghost use Rattle.c_lower.specs.Theorem.{AllLowered, AllNamed};
+
+pub use c_lang::Stmt;
+
+/// The law of lowering: on every machine with sound widths and windows, the statements of sound transfers do
+/// what the transfers do, from any state that shows the machine, and within four steps a node and 46 more.
+pub fn lowering_law()
+    ensures { AllLowered }
+{}
+
+/// The cells that are named may be all cells but the zero cell.
+pub fn naming_law()
+    ensures { AllNamed }
+{}
