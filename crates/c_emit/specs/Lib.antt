@@ -1,0 +1,4 @@
+pub mod Same
+pub mod SmallText
+pub mod Line
+pub mod LineTheorem
