@@ -29,7 +29,7 @@ use Rattle.c_emit.proofs.Middle.{named-none, named-other}
 use Rattle.lockstep.proofs.Stretches.{longer}
 use Rattle.rtl_core.specs.declared.machine.WinShape.{WinShape}
 use Rattle.c_emit.specs.Line.{Lowering, line_block, line, line_program, line_function, ends_within, is_named, named_cells, header_for}
-use Rattle.c_emit.specs.LineTheorem.{IsSoundLine, LinesAreSame, lowering, IsStraightLine, StraightLinesAreSame}
+use Rattle.c_emit.specs.LineTheorem.{OnLine, IsSoundLine, LinesAreSame, lowering, IsStraightLine, StraightLinesAreSame}
 use Rattle.c_emit.specs.Same.{bound}
 use Rattle.c_emit.proofs.LineLookups.{has-first}
 use Rattle.c_emit.proofs.LineStart.{has-named, named-below, IsSetTo, cells-set, fit-first, memory-same}
@@ -161,14 +161,14 @@ module _ (temps : ℕ) (setting : Setting) (n entry : ℕ) (line_is : IsStraight
   machine-sound : IsSoundMachine setting.machine
   machine-sound = line_is.sound.machine.machine
 
-  lowers : (pc : ℕ) (inst : GroundInst) → pc < 2 ^ 32 → standing setting pc ≡ Stands inst
+  lowers : (pc : ℕ) (inst : GroundInst) → pc < 2 ^ 32 → OnLine setting n entry pc inst
       → DoTransfers setting.machine pc inst.transfers (is_named setting.machine) temps (lowering setting.machine pc inst.transfers) (8 * setting.machine.most_nodes + 46)
-  lowers pc inst fits stands =
+  lowers pc inst fits at =
       let m = setting.machine in
       let ts = inst.transfers in
-      let sound = standing-sound setting pc inst machine-sound fits stands in
-      let low = is_lowered m (record { widths = machine-sound.widths; windows = machine-sound.windows }) pc fits ts sound (is_named m) (all_named m machine-sound.windows ts sound (is_named m) names-all) temps (line_is.needs pc inst stands) in
-      let le : lowered_steps m ts ≤ 8 * m.most_nodes + 46 = omega (arith, low.within, line_is.nodes pc inst stands) in
+      let sound = standing-sound setting pc inst machine-sound fits at.stands in
+      let low = is_lowered m (record { widths = machine-sound.widths; windows = machine-sound.windows }) pc fits ts sound (is_named m) (all_named m machine-sound.windows ts sound (is_named m) names-all) temps (line_is.needs pc inst at) in
+      let le : lowered_steps m ts ≤ 8 * m.most_nodes + 46 = omega (arith, low.within, line_is.nodes pc inst at) in
       record { runs = λ p header s declares cells saved shows rest end. longer (step p) _ _ le (low.does.runs p header s declares cells saved shows rest end) }
 
   sound-line : IsSoundLine lowering temps (8 * setting.machine.most_nodes + 46) setting n entry

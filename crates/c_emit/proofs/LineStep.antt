@@ -322,7 +322,7 @@ module _ (low : Lowering) (temps most : ℕ) (setting : Setting) (parts : List P
         r.place ∙ ap (λ s. At (stmts_for low setting a.point.pc s) (end_for a.point.pc s)) stands in
         let here : to_place c (At (low m a.point.pc ts ++ rest) end) ≡ c = ap (λ q. to_place c q) (sym place) in
         let shows : ShowsDoing m (is_named m) (fresh a.cells c.outer.world.memory a.saved) c = record { cells = r.mid.shows; fit = r.mid.fit; saved = r.mid.windows; memory = refl } in
-        let runs = (sound.lowered a.point.pc inst r.pc_fits stands).runs p header c (declares c r.mid.function) a.cells a.saved shows rest end in
+        let runs = (sound.lowered a.point.pc inst r.pc_fits (record { on = r.on; stands = stands })).runs p header c (declares c r.mid.function) a.cells a.saved shows rest end in
         let P = λ (t : State). t.outer.output ≡ c.outer.output in
         let Q = λ (k : Ran) (y : CNext). LeadsTo m (is_named m) c rest end k y in
         let at_c : Meets (step p) P (Q ran) most (Goes c) =
@@ -331,7 +331,7 @@ module _ (low : Lowering) (temps most : ℕ) (setting : Setting) (parts : List P
         let next = concluded setting inst a ran in
         advance_behind (step p) (Way a next) (Q ran) (Matches Related next)
         (narrow (step p) P (Way a next) (Q ran) (λ t e. inl (e ∙ r.mid.output_is)) at_c)
-        (behind_transfers a c inst r stands ran (no-jump m a.point.pc ts a.cells a.memory a.saved (sound.no_jump a.point.pc inst stands)) (no-annul m a.point.pc ts a.cells a.memory a.saved (sound.no_annul a.point.pc inst stands))
+        (behind_transfers a c inst r stands ran (no-jump m a.point.pc ts a.cells a.memory a.saved (sound.no_jump a.point.pc inst (record { on = r.on; stands = stands }))) (no-annul m a.point.pc ts a.cells a.memory a.saved (sound.no_annul a.point.pc inst (record { on = r.on; stands = stands })))
         (no-service m a.point.pc ts a.cells a.memory a.saved))
 
     -- whatever stands at the point

@@ -5,11 +5,17 @@ use Rattle.rtl_core.specs.FirstMemory.{Part}
 use Rattle.rtl_core.specs.SoundConv.{IsSoundConv, FitsMachine, AreSoundTogether}
 use Rattle.rtl_core.specs.SoundTerms.{AreWidths, is_jump, is_annul}
 use Rattle.points.specs.Machine.{Setting, Stands, standing}
+use Rattle.c_lang.specs.State.{has}
 use Rattle.c_lower.specs.Accounts.{lowered_need, nodes_of}
 use Rattle.c_lower.specs.Contract.{DoTransfers}
 use Rattle.c_lower.specs.Lowered.{lowered}
-use Rattle.c_emit.specs.Line.{Lowering, does, is_named, ends_within, line_program}
+use Rattle.c_emit.specs.Line.{Lowering, does, is_named, line, ends_within, line_program}
 use Rattle.c_emit.specs.Same.{bound, IsSame}
+
+-- an instruction stands at an address of the line
+pub record OnLine (setting : Setting) (n entry pc : ℕ) (inst : GroundInst) : Type 0 where
+  pub on : has (line setting n entry) pc ≡ true
+  pub stands : standing setting pc ≡ Stands inst
 
 -- a line of at most n instructions without jumps and annuls, each of which is lowered within `most`
 -- steps and so many temporaries
@@ -19,10 +25,10 @@ pub record IsSoundLine (low : Lowering) (temps most : ℕ) (setting : Setting) (
   pub fits : FitsMachine setting.conv setting.machine
   pub entry_fits : entry < 2 ^ 32
   pub ends : ends_within setting n entry ≡ true
-  pub lowered : (pc : ℕ) (inst : GroundInst) → pc < 2 ^ 32 → standing setting pc ≡ Stands inst
+  pub lowered : (pc : ℕ) (inst : GroundInst) → pc < 2 ^ 32 → OnLine setting n entry pc inst
       → DoTransfers setting.machine pc inst.transfers (is_named setting.machine) temps (low setting.machine pc inst.transfers) most
-  pub no_jump : (pc : ℕ) (inst : GroundInst) → standing setting pc ≡ Stands inst → does is_jump inst.transfers ≡ false
-  pub no_annul : (pc : ℕ) (inst : GroundInst) → standing setting pc ≡ Stands inst → does is_annul inst.transfers ≡ false
+  pub no_jump : (pc : ℕ) (inst : GroundInst) → OnLine setting n entry pc inst → does is_jump inst.transfers ≡ false
+  pub no_annul : (pc : ℕ) (inst : GroundInst) → OnLine setting n entry pc inst → does is_annul inst.transfers ≡ false
   pub flags : 4 ≤ temps
   pub short : most + 6 ≤ bound setting.machine
 
@@ -41,10 +47,10 @@ pub record IsStraightLine (temps : ℕ) (setting : Setting) (n entry : ℕ) : Ty
   pub sound : AreSoundTogether setting.encodings setting.machine setting.conv
   pub entry_fits : entry < 2 ^ 32
   pub ends : ends_within setting n entry ≡ true
-  pub needs : (pc : ℕ) (inst : GroundInst) → standing setting pc ≡ Stands inst → lowered_need inst.transfers ≤ temps
-  pub nodes : (pc : ℕ) (inst : GroundInst) → standing setting pc ≡ Stands inst → nodes_of inst.transfers ≤ 2 * setting.machine.most_nodes
-  pub no_jump : (pc : ℕ) (inst : GroundInst) → standing setting pc ≡ Stands inst → does is_jump inst.transfers ≡ false
-  pub no_annul : (pc : ℕ) (inst : GroundInst) → standing setting pc ≡ Stands inst → does is_annul inst.transfers ≡ false
+  pub needs : (pc : ℕ) (inst : GroundInst) → OnLine setting n entry pc inst → lowered_need inst.transfers ≤ temps
+  pub nodes : (pc : ℕ) (inst : GroundInst) → OnLine setting n entry pc inst → nodes_of inst.transfers ≤ 2 * setting.machine.most_nodes
+  pub no_jump : (pc : ℕ) (inst : GroundInst) → OnLine setting n entry pc inst → does is_jump inst.transfers ≡ false
+  pub no_annul : (pc : ℕ) (inst : GroundInst) → OnLine setting n entry pc inst → does is_annul inst.transfers ≡ false
   pub flags : 4 ≤ temps
 
 -- the C text of a straight line of a sound triple is the same as the machine

@@ -1,3 +1,4 @@
 pub mod ValueLaws
 pub mod StepLaws
 pub mod StepsFrom
+pub mod StaticLaws

@@ -1,6 +1,6 @@
 -- The static rules of a C text. Each rule is a test of one item of a text; a fault is told by the least
 -- item that breaks a rule, and there by the least rule.
-use Rattle.std.specs.Prelude.{ℕ, zero, suc, ◌+◌, ◌-◌, ◌*◌, ◌^◌, ◌==◌, ◌&&◌, ◌||◌, nat_lt, nat_le, min, max, not, Bool, true, false, IsTrue, if◌then◌else◌, List, [], ◌∷◌, ◌++◌, length, map, take, sum_by, position, slice_get, slice_index, is_some, unwrap_or, Option, Some, None, option_map}
+use Rattle.std.specs.Prelude.{ℕ, zero, suc, ◌+◌, ◌-◌, ◌*◌, ◌^◌, ◌==◌, ◌&&◌, ◌||◌, nat_lt, nat_le, min, max, not, Bool, true, false, IsTrue, if◌then◌else◌, List, [], ◌∷◌, ◌++◌, length, map, take, sum_by, slice_get, slice_index, is_some, unwrap_or, Option, Some, None, option_map}
 use Rattle.std.specs.List.{list_all, list_any}
 use Rattle.std.specs.Option.{option_or, option_map_or}
 use Rattle.std.specs.Cmp.Lexicographic.{pointwise}
@@ -166,9 +166,14 @@ small t _ = true
 abbrev pub rules : List (Text → Item → Bool)
 rules = once ∷ known ∷ counted ∷ sized ∷ placed ∷ small ∷ []
 
+-- the place, counted from k on, of the first test that fails
+abbrev pub first_failed : ℕ → List Bool → Option ℕ
+first_failed k [] = None
+first_failed k (kept ∷ rest) = if kept then first_failed (k + 1) rest else Some k
+
 -- the least rule that an item breaks
 abbrev pub broken_by : Text → Item → Option ℕ
-broken_by t item = option_map (λ k. k + 1) (position (λ rule. not (rule t item)) rules)
+broken_by t item = first_failed 1 (map (λ rule. rule t item) rules)
 
 -- the least item, counted from i on, that breaks a rule, and the least rule that it breaks
 abbrev pub first_broken : Text → ℕ → List Item → Option (ℕ × ℕ)

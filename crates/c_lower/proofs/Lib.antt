@@ -12,3 +12,8 @@ pub mod Acts
 pub mod Tidy
 pub mod TidyActs
 pub mod Names
+pub mod Parts
+pub mod CodeLaws
+pub mod MoveLaws
+pub mod ActLaws
+pub mod TransferLaws

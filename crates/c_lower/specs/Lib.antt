@@ -7,3 +7,4 @@ pub mod Accounts
 pub mod Naming
 pub mod Tidy
 pub mod Theorem
+pub mod Lowerable

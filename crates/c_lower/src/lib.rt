@@ -3,7 +3,16 @@
 
 ghost use Rattle.c_lower.specs.Theorem.{AllLowered, AllNamed};
 
+mod expression;
+mod formulas;
+mod instruction;
+mod operations;
+mod temporary_count;
+mod window_moves;
+
 pub use c_lang::Stmt;
+pub use instruction::lower;
+pub use temporary_count::temporaries;
 
 /// The law of lowering: on every machine with sound widths and windows, the statements of sound transfers do
 /// what the transfers do, from any state that shows the machine, and within four steps a node and 46 more.

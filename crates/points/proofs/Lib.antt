@@ -1,3 +1,5 @@
 pub mod StandingSound
 pub mod StepLaws
 pub mod SmallRuns
+pub mod SmallStanding
+pub mod SmallIsSound

@@ -18,17 +18,18 @@ use Rattle.rtl_core.specs.declared.template.TExpr.TheVariants.{Bin, Sext, Operan
 use Rattle.rtl_core.specs.declared.template.TPlace.TheVariants as TPlace
 use Rattle.rtl_core.specs.declared.template.Template.TheVariants.{Acts}
 use Rattle.rtl_core.specs.FirstMemory.{Part}
+use Rattle.rtl_core.specs.SoundConv.{AreSoundTogether}
 use Rattle.rtl_core.specs.Contents.{Contents}
 use Rattle.rtl_core.specs.declared.stop.Stop.TheVariants.{Exit}
 use Rattle.lockstep.specs.Runs.{Running, Stopped}
 use Rattle.points.specs.Machine.{Setting, machine_run}
 
 -- a test that bits are a number
-abbrev is : ℕ → ℕ → ℕ → Test
+abbrev pub is : ℕ → ℕ → ℕ → Test
 is lo hi value = record { lo = lo; hi = hi; equal = true; value = value }
 
 -- an instruction of one word
-abbrev one_word : List ℕ → List OperandKind → List Test → List Bind → Coded
+abbrev pub one_word : List ℕ → List OperandKind → List Test → List Bind → Coded
 one_word name kinds tests binds =
     record { name = name; kinds = kinds; alternatives = (record { bits = 32; tests = tests; binds = binds; typed = None } ∷ []) ∷ [] }
 
@@ -36,13 +37,23 @@ one_word name kinds tests binds =
 abbrev pub or_kinds : List OperandKind
 or_kinds = Field 5 ∷ Field 13 ∷ Field 5 ∷ []
 
+-- what tells an `or`, and where its operands lie
+abbrev pub or_tests : List Test
+or_tests = is 30 31 2 ∷ is 19 24 2 ∷ is 13 13 1 ∷ []
+
+abbrev pub or_binds : List Bind
+or_binds = record { lo = 14; hi = 18; operand = 0 } ∷ record { lo = 0; hi = 12; operand = 1 } ∷ record { lo = 25; hi = 29; operand = 2 } ∷ []
+
+-- what tells the trap that calls a service
+abbrev pub service_tests : List Test
+service_tests = is 0 31 0x91D02010 ∷ []
+
 abbrev pub small_encodings : Encodings
 small_encodings = record {
   order = Big;
   constructors =
-      one_word (codes "ORI") or_kinds (is 30 31 2 ∷ is 19 24 2 ∷ is 13 13 1 ∷ [])
-      (record { lo = 14; hi = 18; operand = 0 } ∷ record { lo = 0; hi = 12; operand = 1 } ∷ record { lo = 25; hi = 29; operand = 2 } ∷ [])
-      ∷ one_word (codes "TA") [] (is 0 31 0x91D02010 ∷ []) []
+      one_word (codes "ORI") or_kinds or_tests or_binds
+      ∷ one_word (codes "TA") [] service_tests []
       ∷ [];
   types = (0 ∷ 1 ∷ []) ∷ [];
 }
@@ -130,3 +141,7 @@ exit_code = 0x82 ∷ 0x10 ∷ 0x20 ∷ 0x01 ∷ 0x90 ∷ 0x10 ∷ 0x20 ∷ 0x03 
 abbrev pub ExitsWithThree : Type 0
 ExitsWithThree = (memory : Contents) (input : List ℕ) →
     (machine_run (small_setting exit_code) memory small_entry input 2 ≡ Running []) × (machine_run (small_setting exit_code) memory small_entry input 3 ≡ Stopped [] (Exit 3))
+
+-- the small machine, its encodings and its conventions are sound together
+abbrev pub SmallIsSound : Type 0
+SmallIsSound = AreSoundTogether small_encodings small_machine small_conv

@@ -1,7 +1,6 @@
 -- When encodings are sound: numbers in range, types in order, each operand bound once, and the limits.
-use Rattle.std.specs.Prelude.{◌≡◌, ℕ, ◌+◌, ◌-◌, ◌/◌, ◌^◌, ◌<◌, ◌≤◌, ◌==◌, ◌⊎◌, nat_eq, List, [], ◌∷◌, ◌++◌, length, map, count_by, sum_by, slice_get, Option, Some, None, All, is_some, IsTrue, true}
-use Rattle.std.specs.List.{concat, list_any, IsDistinct}
-use Rattle.std.specs.Cmp.Lexicographic.{pointwise}
+use Rattle.std.specs.Prelude.{◌≡◌, ℕ, ◌+◌, ◌-◌, ◌/◌, ◌^◌, ◌<◌, ◌≤◌, ◌==◌, ◌⊎◌, List, [], ◌∷◌, ◌++◌, length, map, count_by, sum_by, slice_get, Option, Some, None, All, is_some, IsTrue, true}
+use Rattle.std.specs.List.{concat, list_any}
 use Rattle.rtl_core.specs.declared.encodings.OperandKind.{OperandKind}
 use Rattle.rtl_core.specs.declared.encodings.OperandKind.TheVariants.{Field, Typed}
 use Rattle.rtl_core.specs.declared.encodings.Test.{Test}
@@ -117,7 +116,7 @@ pub record IsWithin (most longest : ℕ → ℕ) (t : ℕ) (k : Coded) : Type 0 
 pub record IsSoundEncodings (enc : Encodings) : Type 0 where
   pub count : length enc.constructors ≤ 4096
   pub types : AreTypes enc.types (length enc.constructors)
-  pub names : IsDistinct (pointwise nat_eq) (map (λ k. k.name) enc.constructors)
+  pub names : (b c : ℕ) (j k : Coded) → slice_get enc.constructors b ≡ Some j → slice_get enc.constructors c ≡ Some k → j.name ≡ k.name → b ≡ c
   pub each : (c : ℕ) (k : Coded) → slice_get enc.constructors c ≡ Some k → IsSoundCoded enc.types c k
   pub most : ℕ → ℕ
   pub longest : ℕ → ℕ
