@@ -1,6 +1,5 @@
 -- What is pushed for an act, a transfer and an instruction.
-use Rattle.std.proofs.Common.{◌≡◌, ℕ, zero, suc, ◌+◌, ◌-◌, ◌≤◌, ◌<◌, max, List, [], ◌∷◌, ◌++◌, Option, Some, None, append_assoc, refl, sym, ap, ◌∙◌, subst, arith, length}
-use Rattle.std.specs.Prelude.{slice_index, All}
+use Rattle.std.proofs.Common.{◌≡◌, ℕ, zero, suc, ◌+◌, ◌-◌, ◌≤◌, ◌<◌, List, [], ◌∷◌, ◌++◌, Option, Some, append_assoc, refl, sym, ap, ◌∙◌, subst, arith, length}
 use Rattle.rtl_core.specs.declared.expr.Expr.{Expr}
 use Rattle.rtl_core.specs.declared.machine.Machine.{Machine}
 use Rattle.rtl_core.specs.declared.machine.WinShape.{WinShape}
@@ -16,11 +15,11 @@ use Rattle.c_lang.specs.declared.tree.Stmt.TheVariants.{Set, Store as StoreAt, I
 use Rattle.c_lang.specs.declared.tree.Var.TheVariants.{Cell as CellVar, Temp}
 use Rattle.c_lower.specs.Accounts.{act_need, guard_need}
 use Rattle.c_lower.specs.Cells.{set_c}
-use Rattle.c_lower.specs.Code.{temp, code, need}
+use Rattle.c_lower.specs.Code.{temp, code}
 use Rattle.c_lower.specs.Formula.{with_bits_c}
 use Rattle.c_lower.specs.Lowerable.{CanLower, HasByteCells, IsByteShape, CanLowerAct, CanLowerTransfer}
-use Rattle.c_lower.specs.Lowered.{save_code, restore_code, act_code, transfer_code}
-use Rattle.c_lower.specs.SoundWindows.{IsWindowGroup, HasSoundWindows}
+use Rattle.c_lower.specs.Lowered.{act_code, transfer_code}
+use Rattle.rtl_core.specs.SoundMachine.{AreWindowCells}
 use Rattle.c_lower.proofs.CodeLaws.{coded}
 
 -- ---- what an act asks of its parts
@@ -58,21 +57,20 @@ can_Jump m act e is h = let s = sound_as m act (A.Jump e) is h in record { width
 pub can_Trap : (m : Machine) (act : Act) (e : Expr) → act ≡ A.Trap e → CanLowerAct m act → CanLower m e 4
 can_Trap m act e is h = let s = sound_as m act (A.Trap e) is h in record { widths = h.machine.machine.widths; sound = s.0; room = room_as m act (A.Trap e) is h }
 
-group_in : (m : Machine) (first n : ℕ) → length m.widths ≤ 256 → first ≤ 255 → IsWindowGroup m first n → first + n ≤ 256
-group_in m first zero few byte h = omega arith
-group_in m first (suc n) few byte h =
-    let low : first ≤ first + n = omega arith in
-    let high : first + n < first + suc n = omega arith in
-    omega (arith, h.inside (first + n) low high)
+group_in : (m : Machine) (first n : ℕ) → length m.widths ≤ 256 → 1 ≤ n → AreWindowCells m first n → first + n ≤ 256
+group_in m first n few some h =
+    let last : n - 1 < n = omega arith in
+    let inside = (h (n - 1) last).0 in
+    omega (arith, few, some, inside)
 
-pub is_byte_shape : (m : Machine) (w : WinShape) → HasByteCells m → m.windows ≡ Some w → w.out_first ≤ 255 → w.local_first ≤ 255 → w.in_first ≤ 255 → IsByteShape w
-is_byte_shape m w h is a b c =
-    let s = subst (HasSoundWindows m) is h.machine.windows in
+pub is_byte_shape : (m : Machine) (w : WinShape) → HasByteCells m → m.windows ≡ Some w → IsByteShape w
+is_byte_shape m w h is =
+    let s = h.machine.windows w is in
     record {
       few = s.few;
-      outs = group_in m w.out_first w.count h.cells a s.outs;
-      locals = group_in m w.local_first w.count h.cells b s.locals;
-      ins = group_in m w.in_first w.count h.cells c s.ins;
+      outs = group_in m w.out_first w.count h.cells s.some s.out;
+      locals = group_in m w.local_first w.count h.cells s.some s.local;
+      ins = group_in m w.in_first w.count h.cells s.some s.in_;
     }
 
 -- ---- what is pushed

@@ -17,3 +17,4 @@ pub mod CodeLaws
 pub mod MoveLaws
 pub mod ActLaws
 pub mod TransferLaws
+pub mod SoundSamples

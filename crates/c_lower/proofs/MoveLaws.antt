@@ -1,8 +1,6 @@
 -- What is pushed for a window move, one cell after another.
-use Rattle.std.proofs.Common.{◌≡◌, ℕ, zero, suc, ◌+◌, ◌≤◌, ◌<◌, List, [], ◌∷◌, ◌++◌, append_assoc, refl, sym, ap, ◌∙◌, arith, length, Some}
-use Rattle.rtl_core.specs.declared.machine.Machine.{Machine}
+use Rattle.std.proofs.Common.{◌≡◌, ℕ, zero, suc, ◌+◌, List, [], ◌∷◌, ◌++◌, append_assoc, refl, sym, ap, ◌∙◌, arith, Some}
 use Rattle.rtl_core.specs.declared.machine.WinShape.{WinShape}
-use Rattle.rtl_core.specs.Windows.{most_windows}
 use Rattle.c_lang.specs.declared.tree.COp.TheVariants.{Eq as Same, Add as Plus, Sub as Minus}
 use Rattle.c_lang.specs.declared.tree.CExpr.TheVariants.{Num, Of, Bin as Op}
 use Rattle.c_lang.specs.declared.tree.Stmt.{Stmt}

@@ -1,5 +1,5 @@
 -- The parts of an expression that can be lowered.
-use Rattle.std.proofs.Common.{◌≡◌, ℕ, ◌+◌, ◌≤◌, ◌<◌, suc, sym, ap, ◌∙◌, subst, arith, max, length}
+use Rattle.std.proofs.Common.{◌≡◌, ℕ, ◌+◌, ◌≤◌, ◌<◌, ap, ◌∙◌, subst, arith, length}
 use Rattle.rtl_core.specs.declared.expr.Un.{Un as UnOp}
 use Rattle.rtl_core.specs.declared.expr.Bin.{Bin as BinOp}
 use Rattle.rtl_core.specs.declared.expr.Expr.{Expr}

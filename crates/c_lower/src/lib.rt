@@ -8,6 +8,8 @@ mod formulas;
 mod instruction;
 mod operations;
 mod temporary_count;
+#[cfg(test)]
+mod tests;
 mod window_moves;
 
 pub use c_lang::Stmt;

@@ -15,3 +15,4 @@ pub mod ByteLaws
 pub mod AccessLaws
 pub mod ArithmeticLaws
 pub mod Rows
+pub mod ReadSteps

@@ -20,3 +20,4 @@ pub mod SoundMachine
 pub mod SoundConv
 pub mod GroundLaw
 pub mod Examples
+pub mod GroundData

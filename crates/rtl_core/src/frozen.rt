@@ -1,5 +1,5 @@
 //! The bytes of an image that no store changes.
-ghost use Rattle.std.specs.Prelude.{◌≡◌, IfSome, true};
+ghost use Rattle.std.specs.Prelude.{◌≡◌, IfNone, IfSome, true};
 ghost use Rattle.std.specs.Option.{option_copied};
 ghost use Rattle.rtl_core.specs.Code.{part_of, is_in, frozen_byte, code_from, is_code};
 
@@ -47,6 +47,19 @@ impl Frozen {
             Some(part) => part.code,
             None => false,
         }
+    }
+
+    /// The bytes of code from an address to the end of its part; `None` exactly where it is not code.
+    #[tactic(auto, unfolding(crate::specs::Code::code_from))]
+    pub fn rest(&self, a: u32) -> Option<&[u8]>
+        ensures none { IfNone result (code_from self.now a ≡ None) }
+        ensures some { IfSome result (λ bytes. code_from self.now a ≡ Some bytes.now) }
+    {
+        let part = self.part(a)?;
+        if !part.code {
+            return None;
+        }
+        Some(&part.bytes.as_slice()[(a - part.base) as usize..])
     }
 
     /// The first part in which an address lies.

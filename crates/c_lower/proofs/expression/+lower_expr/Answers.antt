@@ -1,4 +1,4 @@
-use Rattle.std.proofs.Common.{arith, rules, ◌≡◌, ◌+◌, ◌++◌, [], ◌∷◌, ap, sym, ◌∙◌}
+use Rattle.std.proofs.Common.{arith, rules, ◌≡◌, ◌+◌, ◌++◌, [], ◌∷◌, ap, ◌∙◌}
 use Rattle.rtl_core.specs.Terms.{term_of, width_of}
 use Rattle.c_lang.specs.declared.tree.CExpr.TheVariants.{Choose}
 use Rattle.c_lang.specs.declared.tree.Stmt.TheVariants.{Set}

@@ -1,0 +1,10 @@
+pub mod Separated
+pub mod Written
+pub mod Examples
+pub mod Hex
+pub mod WordTokens
+pub mod Spelled
+pub mod Loops
+pub mod Rows
+pub mod Proper
+pub mod Whole

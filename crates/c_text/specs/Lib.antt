@@ -1,0 +1,10 @@
+pub mod Tokens
+pub mod Words
+pub mod Expressions
+pub mod Statements
+pub mod Blocks
+pub mod Functions
+pub mod Items
+pub mod Spells
+pub mod Output
+pub mod Atoms

@@ -1,0 +1,18 @@
+//! The C text: how a program is spelled, and the writer of texts.
+#![tactic(auto)]
+
+mod atoms;
+mod blocks;
+mod expressions;
+mod functions;
+mod items;
+mod names;
+mod pieces;
+mod statements;
+mod words;
+mod writer;
+
+pub use writer::write_c;
+
+#[cfg(test)]
+mod tests;

@@ -1,0 +1,5 @@
+pub mod Steps
+pub mod Sizes
+pub mod Readiness
+pub mod DepthLaws
+pub mod SoundSamples
