@@ -4,3 +4,4 @@ pub mod Middle
 pub mod LineStep
 pub mod LineStart
 pub mod LineRuns
+pub mod SmallPrograms

@@ -2,6 +2,7 @@
 #![tactic(auto)]
 
 ghost use Rattle.c_emit.specs.LineTheorem.{LinesAreSame, StraightLinesAreSame};
+ghost use Rattle.c_emit.specs.SmallPrograms.{SmallProgramsAreSame};
 ghost use Rattle.c_emit.specs.SmallText.{TextExitsWithThree, SmallBound};
 
 /// A C text of a program of three instructions, run by the definitions of the C text alone.
@@ -24,4 +25,10 @@ pub fn lines_are_same()
 /// The same, for every sound triple: of a line of instructions without jumps and annuls, whatever else they do.
 pub fn straight_lines_are_same()
     ensures { StraightLinesAreSame }
+{}
+
+/// The same, for every program of the small machine, whatever its bytes are: the premises of the theorem can be
+/// met, and its bound is 362 steps for an instruction.
+pub fn small_programs_are_same()
+    ensures { SmallProgramsAreSame }
 {}

@@ -1,7 +1,7 @@
 -- The small machine, its encodings and its conventions are sound.
-use Rattle.std.proofs.Common.{◌≡◌, ◌≢◌, ℕ, zero, suc, ◌+◌, ◌-◌, ◌^◌, ◌<◌, ◌≤◌, ◌==◌, ◌&&◌, nat_lt, nat_le, Bool, true, false, List, [], ◌∷◌, length, get_or, slice_get, Option, Some, None, All, refl, sym, ap, ◌∙◌, subst, inl, inr, arith, replicate, ◌++◌, count_by, sum_by, unwrap_or}
+use Rattle.std.proofs.Common.{◌≡◌, ℕ, zero, suc, ◌+◌, ◌-◌, ◌^◌, ◌<◌, ◌≤◌, ◌==◌, ◌&&◌, nat_lt, nat_le, Bool, true, List, [], ◌∷◌, get_or, slice_get, Some, None, All, refl, subst, inl, inr, arith, replicate, count_by, sum_by, unwrap_or}
 use Rattle.std.proofs.lemmas.Bool.{and_parts, ltb-true, leb-true, eqb-true}
-use Rattle.std.proofs.lemmas.List.Elements.{All-cons, All-nil, All-append, All-replicate, All-get_or}
+use Rattle.std.proofs.lemmas.List.Elements.{All-cons, All-nil, All-append, All-replicate}
 use Rattle.std.specs.List.{list_all, list_any}
 use Rattle.rtl_core.specs.declared.conv.ServiceShape.{ServiceShape}
 use Rattle.rtl_core.specs.declared.encodings.Bind.{Bind}
@@ -16,7 +16,7 @@ use Rattle.rtl_core.specs.Grounding.{is_of_type}
 use Rattle.rtl_core.specs.SoundConv.{IsSoundConv, FitsMachine, AreSoundTogether, AreServiceNumbers, AreServiceCells, IsWord}
 use Rattle.rtl_core.specs.SoundEncodings.{Rises, AreTypes, IsKind, IsSoundTest, IsSoundBind, IsSoundItem, IsSoundAlternative, IsSoundCoded, IsWithin, IsSoundEncodings, items_bind, item_size}
 use Rattle.rtl_core.specs.SoundMachine.{IsSoundMachine, IsSoundForm, AreSound}
-use Rattle.rtl_core.specs.SoundTemplates.{IsPart, IsFile, part_width, file_width, IsSoundTTransfer, AreSoundTTransfers, IsOfWidth}
+use Rattle.rtl_core.specs.SoundTemplates.{IsPart, IsFile, part_width, IsSoundTTransfer, AreSoundTTransfers, IsOfWidth}
 use Rattle.rtl_core.specs.SoundTerms.{IsWidth}
 use Rattle.rtl_core.specs.TemplateNodes.{Counts, IsCounted, form_nodes, form_target, greatest}
 use Rattle.rtl_core.specs.declared.expr.Bin.TheVariants.{Or}

@@ -1,23 +1,25 @@
 -- What stands at an address of the small machine: `or` with a constant, or the service; each has four bytes.
-use Rattle.std.proofs.Common.{◌≡◌, ℕ, zero, suc, ◌+◌, ◌^◌, ◌%◌, ◌<◌, ◌/◌, Bool, true, false, List, [], ◌∷◌, ◌++◌, append_assoc, length, map, Option, Some, None, refl, sym, ap, ◌∙◌, subst}
-use Rattle.std.specs.Prelude.{option_map, option_and_then, slice_get, nat_lt, if◌then◌else◌, replicate}
+use Rattle.std.proofs.Common.{◌≡◌, ℕ, zero, suc, ◌+◌, ◌^◌, ◌%◌, ◌/◌, Bool, true, false, List, [], ◌∷◌, ◌++◌, append_assoc, length, Option, Some, None, refl, sym, ap, ◌∙◌, subst}
+use Rattle.std.specs.Prelude.{option_map, option_and_then, nat_lt, if◌then◌else◌, replicate}
 use Rattle.std.specs.List.{list_all}
 use Rattle.std.specs.Option.{option_or}
 use Rattle.rtl_core.specs.declared.encodings.OperandKind.TheVariants.{Field}
 use Rattle.rtl_core.specs.declared.expr.Bin.TheVariants.{Or}
-use Rattle.rtl_core.specs.declared.expr.Expr.{Expr}
 use Rattle.rtl_core.specs.declared.expr.Expr.TheVariants as E
 use Rattle.rtl_core.specs.declared.inst.GroundInst.{GroundInst}
 use Rattle.rtl_core.specs.declared.inst.Inst.{Inst}
 use Rattle.rtl_core.specs.declared.transfer.Act.TheVariants as Act
 use Rattle.rtl_core.specs.declared.transfer.Transfer.{Transfer}
-use Rattle.rtl_core.specs.Grounding.{Argument, Number, Site, Place, grounded, operands_of, operands_read, operand_read, all_read, Reader, chosen_read, file_place, place_value, assigning, template_transfers}
+use Rattle.rtl_core.specs.Grounding.{Argument, Number, Site, grounded, operands_of, operands_read, all_read, Reader, chosen_read, file_place, place_value, assigning}
 use Rattle.rtl_core.proofs.GroundLaws.{ground_laws}
 use Rattle.rtl_core.specs.declared.encodings.Bind.{Bind}
 use Rattle.rtl_core.specs.declared.encodings.Test.{Test}
 use Rattle.rtl_core.specs.declared.expr.Order.TheVariants.{Big}
 use Rattle.rtl_core.specs.Matching.{Taken, holds, bound, joined, token, type_taken, instruction}
-use Rattle.points.specs.SmallMachine.{small_machine, small_encodings, or_kinds, or_tests, or_binds, service_tests}
+use Rattle.rtl_core.specs.Code.{code_from}
+use Rattle.points.specs.Machine.{Standing, Outside, Illegal, Stands, standing, code_standing, match_standing, ground_standing, matched}
+use Rattle.points.specs.SmallMachine.{small_machine, small_encodings, small_setting, or_kinds, or_tests, or_binds, service_tests}
+use Rattle.points.proofs.StepLaws.{HasNext, grounded-next}
 
 -- the site of an `or`
 abbrev pub or_site : ℕ → ℕ → ℕ → ℕ → ℕ → Site
@@ -152,3 +154,34 @@ four-word c tests binds (Some tok) = by (list_all (holds tok) tests)
 pub instruction-four : (bytes : List ℕ) → IsFour (instruction small_encodings bytes)
 unfolding type_taken
 instruction-four bytes = four-or _ _ (four-word 0 or_tests or_binds (token Big 32 bytes)) (four-or _ None (four-word 1 service_tests [] (token Big 32 bytes)) tt)
+
+-- ---- what stands
+
+-- an instruction of the small machine that goes on four bytes further
+pub record IsSmallAt (pc : ℕ) (inst : GroundInst) : Type 0 where
+  pub small : IsSmall pc inst.next inst.transfers
+  pub next : inst.next ≡ (pc + 4) % 2 ^ 32
+
+abbrev IsSmallStanding : ℕ → Standing → Type 0
+IsSmallStanding pc Outside = Unit {0}
+IsSmallStanding pc Illegal = Unit {0}
+IsSmallStanding pc (Stands inst) = IsSmallAt pc inst
+
+ground-at : (pc next : ℕ) (o : Option GroundInst) → next ≡ (pc + 4) % 2 ^ 32 → IsSmallInst pc next o → HasNext next o → IsSmallStanding pc (ground_standing o)
+ground-at pc next None e h k = tt
+ground-at pc next (Some g) e h k = record { small = subst (λ n. IsSmall pc n g.transfers) (sym k) h; next = k ∙ e }
+
+match-at : (pc : ℕ) (o : Option Taken) → IsFour o → IsSmallStanding pc (match_standing small_machine pc o)
+match-at pc None h = tt
+match-at pc (Some t) h =
+    let next = (pc + t.len) % 2 ^ 32 in
+    let inst : Inst = record { constructor = t.constructor; leaves = t.leaves } in
+    ground-at pc next (matched small_machine pc t) (ap (λ n. (pc + n) % 2 ^ 32) h) (ground-small pc next inst) (grounded-next small_machine inst pc next)
+
+code-at : (code : List ℕ) (pc : ℕ) (o : Option (List ℕ)) → IsSmallStanding pc (code_standing (small_setting code) pc o)
+code-at code pc None = tt
+code-at code pc (Some bytes) = match-at pc (instruction small_encodings bytes) (instruction-four bytes)
+
+-- what stands anywhere in a program of the small machine
+pub standing-small : (code : List ℕ) (pc : ℕ) (inst : GroundInst) → standing (small_setting code) pc ≡ Stands inst → IsSmallAt pc inst
+standing-small code pc inst e = let s = small_setting code in subst (IsSmallStanding pc) e (code-at code pc (code_from s.frozen pc))

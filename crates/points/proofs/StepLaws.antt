@@ -22,7 +22,7 @@ pub controlled-goes : (setting : Setting) (did : Did) (s : State) → did.jump �
 controlled-goes setting did s jump annul = rw (jump, annul)
 
 -- the address behind an instruction
-abbrev HasNext : ℕ → Option GroundInst → Type 0
+abbrev pub HasNext : ℕ → Option GroundInst → Type 0
 HasNext next None = Unit {0}
 HasNext next (Some g) = g.next ≡ next
 
@@ -34,7 +34,7 @@ map-next : {A : Type 0} (next : ℕ) (o : Option A) (f : A → GroundInst) → (
 map-next next None f h = tt
 map-next next (Some x) f h = h x
 
-grounded-next : (m : Machine) (inst : Inst) (pc next : ℕ) → HasNext next (grounded m inst pc next)
+pub grounded-next : (m : Machine) (inst : Inst) (pc next : ℕ) → HasNext next (grounded m inst pc next)
 unfolding grounded
 grounded-next m inst pc next =
     and_then-next next (slice_get m.forms inst.constructor) _ (λ form. and_then-next next (operands_of m pc next form.kinds inst.leaves) _
