@@ -84,8 +84,8 @@ pub sext_wider : (ws : List ℕ) (e : Expr) (w : ℕ) (a : Expr) → e ≡ E.Sex
 sext_wider ws e w a is h = let s = as_term ws e (Sext w (term_of a)) (ap term_of is ∙ term-Sext w a) h in (s.1, s.2)
 
 -- a width is from 1 to 64
-pub is_width : (ws : List ℕ) (e : Expr) → IsSoundExpr ws e → IsWidth (width_of ws (term_of e))
-is_width ws e h = is_width ws h.cells (term_of e) h.term
+pub expression_width : (ws : List ℕ) (e : Expr) → IsSoundExpr ws e → IsWidth (width_of ws (term_of e))
+expression_width ws e h = is_width ws h.cells (term_of e) h.term
 
 -- a value fits its width
 pub value_small : (m : Machine) (cells : List ℕ) (mem : Contents) (e : Expr) (x : ℕ) → Fit m cells → IsSoundExpr m.widths e → Ok x ≡ value_of m cells mem (term_of e) → x < 2 ^ width_of m.widths (term_of e)
@@ -121,4 +121,4 @@ module _ (m : Machine) (cells : List ℕ) (mem : Contents) (e : Expr) where
       and_then (value_of m cells mem (term_of c)) (λ n. and_then (value_of m cells mem (term_of a)) (λ x. and_then (value_of m cells mem (term_of b)) (λ y. Ok (choice n x y))))
   value_If c a b is = ap (λ x. value_of m cells mem (term_of x)) is ∙ ap (value_of m cells mem) (term-If c a b)
 
-pub ruleset value_laws = (term_laws, sound_Load_a, sound_Un_a, sound_Bin_a, sound_Bin_b, sound_Slice_a, sound_Zext_a, sound_Sext_a, sound_If_c, sound_If_a, sound_If_b, cell_there, load_size, slice_within, sext_wider, is_width, value_small, value_Const, value_Cell, value_Load, value_Un, value_Bin, value_Slice, value_Zext, value_Sext, value_If)
+pub ruleset value_laws = (term_laws, sound_Load_a, sound_Un_a, sound_Bin_a, sound_Bin_b, sound_Slice_a, sound_Zext_a, sound_Sext_a, sound_If_c, sound_If_a, sound_If_b, cell_there, load_size, slice_within, sext_wider, expression_width, value_small, value_Const, value_Cell, value_Load, value_Un, value_Bin, value_Slice, value_Zext, value_Sext, value_If)
