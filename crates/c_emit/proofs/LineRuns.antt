@@ -17,14 +17,14 @@ use Rattle.c_lang.specs.Value.{Vars}
 use Rattle.c_lang.specs.State.{State, At, with_var, declared_in}
 use Rattle.c_lang.specs.Step.{step, first_place, frame_of}
 use Rattle.c_lang.specs.Run.{c_run, first_state, first_outer, no_return}
-use Rattle.c_lower.specs.Accounts.{lowered_steps}
 use Rattle.c_lower.specs.Contract.{Declares, IsHeaderOf, AreWindows, DoTransfers}
 use Rattle.c_lower.specs.Naming.{NamesAll, is_nameable}
+use Rattle.c_lower.proofs.GroundBound.{all_within}
 use Rattle.c_lower.proofs.Acts.{is_lowered}
 use Rattle.c_lower.proofs.Names.{all_named}
 use Rattle.rtl_core.specs.SoundMachine.{IsSoundMachine}
 use Rattle.rtl_core.specs.declared.inst.GroundInst.{GroundInst}
-use Rattle.points.proofs.StandingSound.{standing-sound}
+use Rattle.points.proofs.StandingSound.{standing-grounded, standing-sound}
 use Rattle.c_emit.proofs.Middle.{named-none, named-other}
 use Rattle.lockstep.proofs.Stretches.{longer}
 use Rattle.rtl_core.specs.declared.machine.WinShape.{WinShape}
@@ -162,16 +162,17 @@ module _ (temps : ℕ) (setting : Setting) (n entry : ℕ) (line_is : IsStraight
   machine-sound = line_is.sound.machine.machine
 
   lowers : (pc : ℕ) (inst : GroundInst) → pc < 2 ^ 32 → OnLine setting n entry pc inst
-      → DoTransfers setting.machine pc inst.transfers (is_named setting.machine) temps (lowering setting.machine pc inst.transfers) (8 * setting.machine.most_nodes + 46)
+      → DoTransfers setting.machine pc inst.transfers (is_named setting.machine) temps (lowering setting.machine pc inst.transfers) (8 * setting.machine.most_nodes + 64)
   lowers pc inst fits at =
       let m = setting.machine in
       let ts = inst.transfers in
+      let g = standing-grounded setting pc inst at.stands in
       let sound = standing-sound setting pc inst machine-sound fits at.stands in
       let low = is_lowered m (record { widths = machine-sound.widths; windows = machine-sound.windows }) pc fits ts sound (is_named m) (all_named m machine-sound.windows ts sound (is_named m) names-all) temps (line_is.needs pc inst at) in
-      let le : lowered_steps m ts ≤ 8 * m.most_nodes + 46 = omega (arith, low.within, line_is.nodes pc inst at) in
-      record { runs = λ p header s declares cells saved shows rest end. longer (step p) _ _ le (low.does.runs p header s declares cells saved shows rest end) }
+      let within = all_within m machine-sound g.matched pc g.next inst g.is fits g.fits in
+      record { runs = λ p header s declares cells saved shows rest end. longer (step p) _ _ within.steps (low.does.runs p header s declares cells saved shows rest end) }
 
-  sound-line : IsSoundLine lowering temps (8 * setting.machine.most_nodes + 46) setting n entry
+  sound-line : IsSoundLine lowering temps (8 * setting.machine.most_nodes + 64) setting n entry
   sound-line = record {
     widths = machine-sound.widths;
     conv = line_is.sound.conv;
@@ -186,4 +187,4 @@ module _ (temps : ℕ) (setting : Setting) (n entry : ℕ) (line_is : IsStraight
   }
 
 pub straight-lines-are-same : StraightLinesAreSame
-straight-lines-are-same temps setting parts n entry line_is = lines-are-same lowering temps (8 * setting.machine.most_nodes + 46) setting parts n entry (sound-line temps setting n entry line_is)
+straight-lines-are-same temps setting parts n entry line_is = lines-are-same lowering temps (8 * setting.machine.most_nodes + 64) setting parts n entry (sound-line temps setting n entry line_is)

@@ -19,7 +19,7 @@ use Rattle.points.specs.Machine.{Setting, Standing, Outside, Illegal, Stands, st
 use Rattle.points.specs.SmallMachine.{small_machine, small_setting, small_parts, small_entry}
 use Rattle.points.proofs.SmallIsSound.{small_sound}
 use Rattle.points.proofs.SmallStanding.{IsSmall, ors, serves, or_site, IsSmallAt, standing-small}
-use Rattle.c_lower.specs.Accounts.{lowered_need, nodes_of}
+use Rattle.c_lower.specs.Accounts.{lowered_need}
 use Rattle.c_emit.specs.Line.{does, ends_within, onward, along}
 use Rattle.c_emit.specs.LineTheorem.{IsStraightLine}
 use Rattle.c_emit.specs.SmallPrograms.{SmallProgramsAreSame}
@@ -59,12 +59,6 @@ or-need x y b (whole c) (bits d lo hi) = rw (or-bits d lo hi b) (omega arith)
 or-need x y b (bits c l h) (whole d) = rw (or-whole d b) (omega arith)
 or-need x y b (bits c l h) (bits d lo hi) = rw (or-bits d lo hi b) (omega arith)
 
-or-nodes : (x y : Place) (b : ℕ) → IsPart x → IsPart y → nodes_of (or_into x y b) ≤ 10
-or-nodes x y b (whole c) (whole d) = rw (or-whole d b) (omega arith)
-or-nodes x y b (whole c) (bits d lo hi) = rw (or-bits d lo hi b) (omega arith)
-or-nodes x y b (bits c l h) (whole d) = rw (or-whole d b) (omega arith)
-or-nodes x y b (bits c l h) (bits d lo hi) = rw (or-bits d lo hi b) (omega arith)
-
 or-no-jump : (x y : Place) (b : ℕ) → IsPart x → IsPart y → does is_jump (or_into x y b) ≡ false
 or-no-jump x y b (whole c) h = refl
 or-no-jump x y b (bits c l h) k = refl
@@ -76,7 +70,6 @@ or-no-annul x y b (bits c l h) k = refl
 -- the same of all transfers of the small machine
 record IsPlain (ts : List Transfer) : Type 0 where
   need : lowered_need ts ≤ 6
-  nodes : nodes_of ts ≤ 10
   no_jump : does is_jump ts ≡ false
   no_annul : does is_annul ts ≡ false
 
@@ -91,8 +84,8 @@ plain pc next ts (ors a b c) =
     let y = file_place small_machine site 0 0 in
     let px = file-part site 0 2 in
     let py = file-part site 0 0 in
-    record { need = or-need x y b px py; nodes = or-nodes x y b px py; no_jump = or-no-jump x y b px py; no_annul = or-no-annul x y b px py }
-plain pc next ts serves = record { need = omega arith; nodes = omega arith; no_jump = refl; no_annul = refl }
+    record { need = or-need x y b px py; no_jump = or-no-jump x y b px py; no_annul = or-no-annul x y b px py }
+plain pc next ts serves = record { need = omega arith; no_jump = refl; no_annul = refl }
 
 -- ---- the end of its lines
 
@@ -148,7 +141,6 @@ module _ (code : List ℕ) (fits : small_entry + length code + 4 ≤ 2 ^ 32) whe
     entry_fits = omega arith;
     ends = ends-at (length code) small_entry (omega arith);
     needs = λ pc inst on. (plain-at pc inst on.stands).need;
-    nodes = λ pc inst on. (plain-at pc inst on.stands).nodes;
     no_jump = λ pc inst on. (plain-at pc inst on.stands).no_jump;
     no_annul = λ pc inst on. (plain-at pc inst on.stands).no_annul;
     flags = omega arith;

@@ -1,12 +1,12 @@
 -- What makes the C text of a straight line the same as the machine.
-use Rattle.std.specs.Prelude.{[], ◌≡◌, ℕ, ◌+◌, ◌*◌, ◌^◌, ◌<◌, ◌≤◌, true, false, List}
+use Rattle.std.specs.Prelude.{[], ◌≡◌, ℕ, ◌+◌, ◌^◌, ◌<◌, ◌≤◌, true, false, List}
 use Rattle.rtl_core.specs.declared.inst.GroundInst.{GroundInst}
 use Rattle.rtl_core.specs.FirstMemory.{Part}
 use Rattle.rtl_core.specs.SoundConv.{IsSoundConv, FitsMachine, AreSoundTogether}
 use Rattle.rtl_core.specs.SoundTerms.{AreWidths, is_jump, is_annul}
 use Rattle.points.specs.Machine.{Setting, Stands, standing}
 use Rattle.c_lang.specs.State.{has}
-use Rattle.c_lower.specs.Accounts.{lowered_need, nodes_of}
+use Rattle.c_lower.specs.Accounts.{lowered_need}
 use Rattle.c_lower.specs.Contract.{DoTransfers}
 use Rattle.c_lower.specs.Lowered.{lowered}
 use Rattle.c_emit.specs.Line.{Lowering, does, is_named, line, ends_within, line_program}
@@ -48,7 +48,6 @@ pub record IsStraightLine (temps : ℕ) (setting : Setting) (n entry : ℕ) : Ty
   pub entry_fits : entry < 2 ^ 32
   pub ends : ends_within setting n entry ≡ true
   pub needs : (pc : ℕ) (inst : GroundInst) → OnLine setting n entry pc inst → lowered_need inst.transfers ≤ temps
-  pub nodes : (pc : ℕ) (inst : GroundInst) → OnLine setting n entry pc inst → nodes_of inst.transfers ≤ 2 * setting.machine.most_nodes
   pub no_jump : (pc : ℕ) (inst : GroundInst) → OnLine setting n entry pc inst → does is_jump inst.transfers ≡ false
   pub no_annul : (pc : ℕ) (inst : GroundInst) → OnLine setting n entry pc inst → does is_annul inst.transfers ≡ false
   pub flags : 4 ≤ temps

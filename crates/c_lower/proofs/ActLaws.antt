@@ -1,5 +1,5 @@
 -- What is pushed for an act, a transfer and an instruction.
-use Rattle.std.proofs.Common.{◌≡◌, ℕ, ◌+◌, ◌-◌, ◌≤◌, ◌<◌, List, [], ◌∷◌, ◌++◌, Option, Some, append_assoc, refl, sym, ap, ◌∙◌, subst, arith, length}
+use Rattle.std.proofs.Common.{◌≡◌, ℕ, zero, suc, ◌+◌, ◌≤◌, ◌<◌, List, [], ◌∷◌, ◌++◌, Option, Some, append_assoc, refl, sym, ap, ◌∙◌, subst, arith, length}
 use Rattle.rtl_core.specs.declared.expr.Expr.{Expr}
 use Rattle.rtl_core.specs.declared.machine.Machine.{Machine}
 use Rattle.rtl_core.specs.declared.machine.WinShape.{WinShape}
@@ -57,20 +57,19 @@ can_Jump m act e is h = let s = sound_as m act (A.Jump e) is h in record { width
 pub can_Trap : (m : Machine) (act : Act) (e : Expr) → act ≡ A.Trap e → CanLowerAct m act → CanLower m e 4
 can_Trap m act e is h = let s = sound_as m act (A.Trap e) is h in record { widths = h.machine.machine.widths; sound = s.0; room = room_as m act (A.Trap e) is h }
 
-group_in : (m : Machine) (first n : ℕ) → length m.widths ≤ 256 → 1 ≤ n → AreWindowCells m first n → first + n ≤ 256
-group_in m first n few some h =
-    let last : n - 1 < n = omega arith in
-    let inside = (h (n - 1) last).0 in
-    omega (arith, few, some, inside)
+group_in : (m : Machine) (first n : ℕ) → length m.widths ≤ 256 → first ≤ 255 → AreWindowCells m first n → first + n ≤ 256
+group_in m first zero few byte h = omega arith
+group_in m first (suc n) few byte h = let last : n < suc n = omega arith in omega (arith, (h n last).0)
 
-pub is_byte_shape : (m : Machine) (w : WinShape) → HasByteCells m → m.windows ≡ Some w → IsByteShape w
-is_byte_shape m w h is =
-    let s = h.machine.windows w is in
+pub is_byte_shape : (m : Machine) (w : WinShape) → HasByteCells m → m.windows ≡ Some w → w.out_first ≤ 255 → w.local_first ≤ 255 → w.in_first ≤ 255 → IsByteShape w
+is_byte_shape m w h is a b c =
+    let machine = h.machine in
+    let s = machine.windows w is in
     record {
       few = s.few;
-      outs = group_in m w.out_first w.count h.cells s.some s.out;
-      locals = group_in m w.local_first w.count h.cells s.some s.local;
-      ins = group_in m w.in_first w.count h.cells s.some s.in_;
+      outs = group_in m w.out_first w.count h.cells a s.out;
+      locals = group_in m w.local_first w.count h.cells b s.local;
+      ins = group_in m w.in_first w.count h.cells c s.in_;
     }
 
 -- ---- what is pushed

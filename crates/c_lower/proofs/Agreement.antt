@@ -36,7 +36,8 @@ pub record Agrees (m : Machine) (named : ℕ → Bool) (base : State) (d : Doing
   pub left : (v : Var) → IsLeft named v → sees mid v ≡ seen_vars base v
 
 -- a nameable cell that is not the zero cell is named
-pub nameable_named : (zero_cell : Option ℕ) (named : ℕ → Bool) (c : ℕ) → is_nameable zero_cell named c ≡ true → zero_cell ≢ Some c → named c ≡ true
+pub nameable_named : (zero_cell : Option ℕ) (named : ℕ → Bool) (c : ℕ) → is_nameable zero_cell named c ≡ true
+    → zero_cell ≢ Some c → named c ≡ true
 nameable_named None named c h ne = h
 nameable_named (Some z) named c h ne = by (c == z) refl h
   where
@@ -51,7 +52,8 @@ pub set_other : (cells : List ℕ) (c v i : ℕ) → c ≢ i → slice_index (sl
 set_other cells c v i ne = get_or-set_other cells c i v 0 (λ e. ne (sym e))
 
 module _ (m : Machine) (named : ℕ → Bool) (base : State) where
-  left_kept : (k : ℕ) (mid : Mid) (new : Vars) → Kept k mid.vars new → (v : Var) → IsLeft named v → sees (record mid { vars = new }) v ≡ sees mid v
+  left_kept : (k : ℕ) (mid : Mid) (new : Vars) → Kept k mid.vars new → (v : Var) → IsLeft named v
+      → sees (record mid { vars = new }) v ≡ sees mid v
   left_kept k mid new kept (Temp i) h = absurd h
   left_kept k mid new kept Ra h = kept.same Ra tt
   left_kept k mid new kept Pt h = kept.same Pt tt
@@ -62,9 +64,11 @@ module _ (m : Machine) (named : ℕ → Bool) (base : State) where
   left_kept k mid new kept ServeR h = refl
   left_kept k mid new kept ServeE h = refl
 
-  pub agrees_kept : (d : Doing) (mid : Mid) (new : Vars) (k : ℕ) → 4 ≤ k → Kept k mid.vars new → Agrees m named base d mid → Agrees m named base d (record mid { vars = new })
+  pub agrees_kept : (d : Doing) (mid : Mid) (new : Vars) (k : ℕ) → 4 ≤ k → Kept k mid.vars new
+      → Agrees m named base d mid → Agrees m named base d (record mid { vars = new })
   agrees_kept d mid new k le kept a =
-      let b0 : 0 < k = omega arith in let b1 : 1 < k = omega arith in let b2 : 2 < k = omega arith in let b3 : 3 < k = omega arith in
+      let b0 : 0 < k = omega arith in let b1 : 1 < k = omega arith in let b2 : 2 < k = omega arith in
+      let b3 : 3 < k = omega arith in
       record {
         shows = shows_kept named d.cells k mid.vars new kept a.shows;
         fit = a.fit;
@@ -93,10 +97,12 @@ module _ (m : Machine) (named : ℕ → Bool) (base : State) where
   left_temp k n mid ServeR h = refl
   left_temp k n mid ServeE h = refl
 
-  shows_temp : (cells : List ℕ) (k n : ℕ) (vars : Vars) → ShowsCells named cells vars → ShowsCells named cells (with_var vars (Temp k) n)
+  shows_temp : (cells : List ℕ) (k n : ℕ) (vars : Vars) → ShowsCells named cells vars
+      → ShowsCells named cells (with_var vars (Temp k) n)
   shows_temp cells k n vars s = record { reads = λ c h. s.reads c h }
 
-  pub agrees_jump : (d : Doing) (mid : Mid) (x : ℕ) → x < 2 ^ 32 → Agrees m named base d mid → Agrees m named base (record d { jump = Some x }) (set (set mid (Temp 0) x) (Temp 1) 1)
+  pub agrees_jump : (d : Doing) (mid : Mid) (x : ℕ) → x < 2 ^ 32 → Agrees m named base d mid
+      → Agrees m named base (record d { jump = Some x }) (set (set mid (Temp 0) x) (Temp 1) 1)
   agrees_jump d mid x fits a = record {
     shows = shows_temp d.cells 1 1 (with_var mid.vars (Temp 0) x) (shows_temp d.cells 0 x mid.vars a.shows);
     fit = a.fit;
@@ -113,7 +119,8 @@ module _ (m : Machine) (named : ℕ → Bool) (base : State) where
     left = λ v h. left_temp 1 1 (set mid (Temp 0) x) v h ∙ left_temp 0 x mid v h ∙ a.left v h;
   }
 
-  pub agrees_annul : (d : Doing) (mid : Mid) → Agrees m named base d mid → Agrees m named base (record d { annul = true }) (set mid (Temp 2) 1)
+  pub agrees_annul : (d : Doing) (mid : Mid) → Agrees m named base d mid
+      → Agrees m named base (record d { annul = true }) (set mid (Temp 2) 1)
   agrees_annul d mid a = record {
     shows = shows_temp d.cells 2 1 mid.vars a.shows;
     fit = a.fit;
@@ -130,7 +137,8 @@ module _ (m : Machine) (named : ℕ → Bool) (base : State) where
     left = λ v h. left_temp 2 1 mid v h ∙ a.left v h;
   }
 
-  pub agrees_service : (d : Doing) (mid : Mid) → Agrees m named base d mid → Agrees m named base (record d { service = true }) (set mid (Temp 3) 1)
+  pub agrees_service : (d : Doing) (mid : Mid) → Agrees m named base d mid
+      → Agrees m named base (record d { service = true }) (set mid (Temp 3) 1)
   agrees_service d mid a = record {
     shows = shows_temp d.cells 3 1 mid.vars a.shows;
     fit = a.fit;
@@ -148,13 +156,18 @@ module _ (m : Machine) (named : ℕ → Bool) (base : State) where
   }
 
   -- the start of an instruction, with t0 to t3 set to 0
-  pub agrees_start : (d : Doing) (mid : Mid) → ShowsCells named d.cells mid.vars → Fit m d.cells → mid.globals Wn ≡ Some (length d.saved) → length d.saved ≤ most_windows → AreWords mid.words d.saved → AreWindows m.windows d.saved
-      → mid.memory ≡ d.memory → jump_value d.jump ≡ 0 → jump_flag d.jump ≡ 0 → flag d.annul ≡ 0 → flag d.service ≡ 0 → ((v : Var) → sees mid v ≡ seen_vars base v)
+  pub agrees_start : (d : Doing) (mid : Mid) → ShowsCells named d.cells mid.vars → Fit m d.cells
+      → mid.globals Wn ≡ Some (length d.saved) → length d.saved ≤ most_windows → AreWords mid.words d.saved
+      → AreWindows m.windows d.saved
+      → mid.memory ≡ d.memory → jump_value d.jump ≡ 0 → jump_flag d.jump ≡ 0 → flag d.annul ≡ 0 → flag d.service ≡ 0
+      → ((v : Var) → sees mid v ≡ seen_vars base v)
       → Agrees m named base d (set (set (set (set mid (Temp 0) 0) (Temp 1) 0) (Temp 2) 0) (Temp 3) 0)
   agrees_start d mid shows fit count few words windows memory e0 e1 e2 e3 left =
       let v1 = set mid (Temp 0) 0 in let v2 = set v1 (Temp 1) 0 in let v3 = set v2 (Temp 2) 0 in
       record {
-        shows = shows_temp d.cells 3 0 v3.vars (shows_temp d.cells 2 0 v2.vars (shows_temp d.cells 1 0 v1.vars (shows_temp d.cells 0 0 mid.vars shows)));
+        shows =
+            shows_temp d.cells 3 0 v3.vars
+            (shows_temp d.cells 2 0 v2.vars (shows_temp d.cells 1 0 v1.vars (shows_temp d.cells 0 0 mid.vars shows)));
         fit = fit;
         count = count;
         few = few;
@@ -166,11 +179,13 @@ module _ (m : Machine) (named : ℕ → Bool) (base : State) where
         jumps = ap Some (sym e1);
         annuls = ap Some (sym e2);
         serves = ap Some (sym e3);
-        left = λ v h. left_temp 3 0 v3 v h ∙ left_temp 2 0 v2 v h ∙ left_temp 1 0 v1 v h ∙ left_temp 0 0 mid v h ∙ left v;
+        left =
+            λ v h. left_temp 3 0 v3 v h ∙ left_temp 2 0 v2 v h ∙ left_temp 1 0 v1 v h ∙ left_temp 0 0 mid v h ∙ left v;
       }
 
   -- ---- memory
-  pub agrees_memory : (d : Doing) (mid : Mid) (memory : Contents) → Agrees m named base d mid → Agrees m named base (record d { memory = memory }) (record mid { memory = memory })
+  pub agrees_memory : (d : Doing) (mid : Mid) (memory : Contents) → Agrees m named base d mid
+      → Agrees m named base (record d { memory = memory }) (record mid { memory = memory })
   agrees_memory d mid memory a = record {
     shows = a.shows;
     fit = a.fit;
@@ -199,7 +214,8 @@ module _ (m : Machine) (named : ℕ → Bool) (base : State) where
   left_count n mid ServeR h = refl
   left_count n mid ServeE h = refl
 
-  pub agrees_saved : (d : Doing) (mid : Mid) (saved : List (List ℕ)) → length saved ≤ most_windows → AreWords mid.words saved → AreWindows m.windows saved → Agrees m named base d mid
+  pub agrees_saved : (d : Doing) (mid : Mid) (saved : List (List ℕ)) → length saved ≤ most_windows
+      → AreWords mid.words saved → AreWindows m.windows saved → Agrees m named base d mid
       → Agrees m named base (record d { saved = saved }) (set mid Wn (length saved))
   agrees_saved d mid saved few words windows a = record {
     shows = a.shows;
@@ -217,7 +233,8 @@ module _ (m : Machine) (named : ℕ → Bool) (base : State) where
     left = λ v h. left_count (length saved) mid v h ∙ a.left v h;
   }
 
-  pub agrees_words : (d : Doing) (mid : Mid) (words : ℕ → ℕ) → AreWords words d.saved → Agrees m named base d mid → Agrees m named base d (record mid { words = words })
+  pub agrees_words : (d : Doing) (mid : Mid) (words : ℕ → ℕ) → AreWords words d.saved → Agrees m named base d mid
+      → Agrees m named base d (record mid { words = words })
   agrees_words d mid words are a = record {
     shows = a.shows;
     fit = a.fit;
@@ -236,9 +253,12 @@ module _ (m : Machine) (named : ℕ → Bool) (base : State) where
 
   -- ---- a named cell
   module _ (never_zero : (c : ℕ) → m.zero ≡ Some c → named c ≡ false) where
-    left_cell : (c x : ℕ) (mid : Mid) (v : Var) → named c ≡ true → IsLeft named v → sees (set mid (Cell c) x) v ≡ sees mid v
+    left_cell : (c x : ℕ) (mid : Mid) (v : Var) → named c ≡ true → IsLeft named v
+        → sees (set mid (Cell c) x) v ≡ sees mid v
     left_cell c x mid (Temp i) n h = absurd h
-    left_cell c x mid (Cell i) n h = let ne : c ≢ i = λ e. both_ways (named c) (ap named e ∙ h) n in ap (λ t. if t then Some x else mid.vars (Cell i)) (ne_eqb c i ne)
+    left_cell c x mid (Cell i) n h =
+        let ne : c ≢ i = λ e. both_ways (named c) (ap named e ∙ h) n in
+        ap (λ t. if t then Some x else mid.vars (Cell i)) (ne_eqb c i ne)
     left_cell c x mid Ra n h = refl
     left_cell c x mid Pt n h = refl
     left_cell c x mid (Result i) n h = refl
@@ -247,25 +267,35 @@ module _ (m : Machine) (named : ℕ → Bool) (base : State) where
     left_cell c x mid ServeR n h = refl
     left_cell c x mid ServeE n h = refl
 
-    fit_set : (cells : List ℕ) (c x : ℕ) → named c ≡ true → c < length m.widths → x < 2 ^ slice_index m.widths c → Fit m cells → Fit m (slice_set cells c x)
+    fit_set : (cells : List ℕ) (c x : ℕ) → named c ≡ true → c < length m.widths → x < 2 ^ slice_index m.widths c
+        → Fit m cells → Fit m (slice_set cells c x)
     fit_set cells c x n lt small fit =
         let inside : c < length cells = omega (arith, fit.count) in
         record {
           count = length-set cells c x ∙ fit.count;
           each = λ i h. ⊎_elim
-              (λ e. subst (λ j. slice_index (slice_set cells c x) j < 2 ^ slice_index m.widths j) e (subst (λ y. y < 2 ^ slice_index m.widths c) (sym (set_same cells c x inside)) small))
-              (λ ne. subst (λ y. y < 2 ^ slice_index m.widths i) (sym (set_other cells c x i ne)) (fit.each i h)) (cases_eq c i);
-          zeroed = λ z e. let ne : c ≢ z = λ same. both_ways (named c) (ap named same ∙ never_zero z e) n in set_other cells c x z ne ∙ fit.zeroed z e;
+              (λ e. subst (λ j. slice_index (slice_set cells c x) j < 2 ^ slice_index m.widths j) e
+              (subst (λ y. y < 2 ^ slice_index m.widths c) (sym (set_same cells c x inside)) small))
+              (λ ne. subst (λ y. y < 2 ^ slice_index m.widths i) (sym (set_other cells c x i ne)) (fit.each i h))
+              (cases_eq c i);
+          zeroed =
+              λ z e. let ne : c ≢ z = λ same. both_ways (named c) (ap named same ∙ never_zero z e) n in
+              set_other cells c x z ne ∙ fit.zeroed z e;
         }
 
-    shows_cell : (cells : List ℕ) (c x : ℕ) (vars : Vars) → c < length cells → ShowsCells named cells vars → ShowsCells named (slice_set cells c x) (with_var vars (Cell c) x)
+    shows_cell : (cells : List ℕ) (c x : ℕ) (vars : Vars) → c < length cells → ShowsCells named cells vars
+        → ShowsCells named (slice_set cells c x) (with_var vars (Cell c) x)
     shows_cell cells c x vars inside s = record {
       reads = λ i n. ⊎_elim
-          (λ e. ap (λ t. if t then Some x else vars (Cell i)) (eq-eqb c i e) ∙ ap Some (sym (ap (slice_index (slice_set cells c x)) (sym e) ∙ set_same cells c x inside)))
-          (λ ne. ap (λ t. if t then Some x else vars (Cell i)) (ne_eqb c i ne) ∙ s.reads i n ∙ ap Some (sym (set_other cells c x i ne))) (cases_eq c i);
+          (λ e. ap (λ t. if t then Some x else vars (Cell i)) (eq-eqb c i e)
+          ∙ ap Some (sym (ap (slice_index (slice_set cells c x)) (sym e) ∙ set_same cells c x inside)))
+          (λ ne. ap (λ t. if t then Some x else vars (Cell i)) (ne_eqb c i ne) ∙ s.reads i n
+          ∙ ap Some (sym (set_other cells c x i ne))) (cases_eq c i);
     }
 
-    pub agrees_cell : (d : Doing) (mid : Mid) (c x : ℕ) → named c ≡ true → c < length m.widths → x < 2 ^ slice_index m.widths c → Agrees m named base d mid → Agrees m named base (record d { cells = slice_set d.cells c x }) (set mid (Cell c) x)
+    pub agrees_cell : (d : Doing) (mid : Mid) (c x : ℕ) → named c ≡ true → c < length m.widths
+        → x < 2 ^ slice_index m.widths c → Agrees m named base d mid
+        → Agrees m named base (record d { cells = slice_set d.cells c x }) (set mid (Cell c) x)
     agrees_cell d mid c x n lt small a =
         let fit = a.fit in
         let inside : c < length d.cells = omega (arith, fit.count) in

@@ -24,7 +24,8 @@ guarded_on : (t : Bool) (pc k : ℕ) (r s : List Stmt) → guarded t pc k r ++ s
 guarded_on true pc k r s = refl
 guarded_on false pc k r s = refl
 
-pub code_on : (m : Machine) (pc : ℕ) (t : Term) (k : ℕ) (r s : List Stmt) → code m pc t k r ++ s ≡ code m pc t k (r ++ s)
+pub code_on : (m : Machine) (pc : ℕ) (t : Term) (k : ℕ) (r s : List Stmt)
+    → code m pc t k r ++ s ≡ code m pc t k (r ++ s)
 code_on m pc (Const w n) k r s = refl
 code_on m pc (Cell c) k r s = refl
 code_on m pc (Load b a) k r s = code_on m pc a k (LoadInto (Temp k) b (temp k) ∷ r) s
@@ -32,26 +33,31 @@ code_on m pc (Unary op a) k r s = code_on m pc a k (Set (Temp k) (unary_c op (wi
 code_on m pc (Binary op a b) k r s =
     let x = Set (Temp k) (binary_c op (width_of m.widths a) (temp k) (temp (k + 1))) in
     code_on m pc a k (code m pc b (k + 1) (guarded (is_division op) pc (k + 1) (x ∷ r))) s
-    ∙ ap (code m pc a k) (code_on m pc b (k + 1) (guarded (is_division op) pc (k + 1) (x ∷ r)) s ∙ ap (code m pc b (k + 1)) (guarded_on (is_division op) pc (k + 1) (x ∷ r) s))
+    ∙ ap (code m pc a k) (code_on m pc b (k + 1) (guarded (is_division op) pc (k + 1) (x ∷ r)) s
+    ∙ ap (code m pc b (k + 1)) (guarded_on (is_division op) pc (k + 1) (x ∷ r) s))
 code_on m pc (Slice a lo hi) k r s = code_on m pc a k (Set (Temp k) (bits_c lo hi (temp k)) ∷ r) s
 code_on m pc (Zext w a) k r s = code_on m pc a k r s
 code_on m pc (Sext w a) k r s = code_on m pc a k (Set (Temp k) (sign_extended_c (width_of m.widths a) w (temp k)) ∷ r) s
 code_on m pc (Choice c a b) k r s =
     let x = Set (Temp k) (Choose (temp k) (temp (k + 1)) (temp (k + 2))) in
     code_on m pc c k (code m pc a (k + 1) (code m pc b (k + 2) (x ∷ r))) s
-    ∙ ap (code m pc c k) (code_on m pc a (k + 1) (code m pc b (k + 2) (x ∷ r)) s ∙ ap (code m pc a (k + 1)) (code_on m pc b (k + 2) (x ∷ r) s))
+    ∙ ap (code m pc c k) (code_on m pc a (k + 1) (code m pc b (k + 2) (x ∷ r)) s
+    ∙ ap (code m pc a (k + 1)) (code_on m pc b (k + 2) (x ∷ r) s))
 
-set_on : (zero_cell : Option ℕ) (c : ℕ) (e : CExpr) (r s : List Stmt) → set_c zero_cell c e r ++ s ≡ set_c zero_cell c e (r ++ s)
+set_on : (zero_cell : Option ℕ) (c : ℕ) (e : CExpr) (r s : List Stmt)
+    → set_c zero_cell c e r ++ s ≡ set_c zero_cell c e (r ++ s)
 set_on None c e r s = refl
 set_on (Some z) c e r s = by (c == z)
   where
-    by : (t : Bool) → (if t then r else Set (CellVar c) e ∷ r) ++ s ≡ (if t then r ++ s else Set (CellVar c) e ∷ (r ++ s))
+    by : (t : Bool) → (if t then r else Set (CellVar c) e ∷ r) ++ s ≡
+        (if t then r ++ s else Set (CellVar c) e ∷ (r ++ s))
     by true = refl
     by false = refl
 
 pushed_on : (n i first : ℕ) (r s : List Stmt) → pushed i first n r ++ s ≡ pushed i first n (r ++ s)
 pushed_on zero i first r s = refl
-pushed_on (suc n) i first r s = ap (λ l. PutW (word_place i) (Of (CellVar first)) ∷ l) (pushed_on n (i + 1) (first + 1) r s)
+pushed_on (suc n) i first r s =
+    ap (λ l. PutW (word_place i) (Of (CellVar first)) ∷ l) (pushed_on n (i + 1) (first + 1) r s)
 
 popped_on : (n i first : ℕ) (r s : List Stmt) → popped i first n r ++ s ≡ popped i first n (r ++ s)
 popped_on zero i first r s = refl
@@ -74,8 +80,12 @@ save_on (Some w) r s =
     let r2 = cleared w.local_first k r3 in
     let r1 = moved w.out_first w.in_first k r2 in
     ap (λ l. If (Op Same (Of Wn) (Num most_windows)) (StopWith 6 (Num 0) ∷ []) ∷ l)
-    (pushed_on k 0 w.local_first (pushed k w.in_first k (more ∷ r1)) s ∙ ap (pushed 0 w.local_first k) (pushed_on k k w.in_first (more ∷ r1) s
-    ∙ ap (λ l. pushed k w.in_first k (more ∷ l)) (moved_on k w.out_first w.in_first r2 s ∙ ap (moved w.out_first w.in_first k) (cleared_on k w.local_first r3 s ∙ ap (cleared w.local_first k) (cleared_on k w.out_first r s)))))
+    (pushed_on k 0 w.local_first (pushed k w.in_first k (more ∷ r1)) s
+    ∙ ap (pushed 0 w.local_first k) (pushed_on k k w.in_first (more ∷ r1) s
+    ∙ ap (λ l. pushed k w.in_first k (more ∷ l))
+    (moved_on k w.out_first w.in_first r2 s
+    ∙ ap (moved w.out_first w.in_first k)
+    (cleared_on k w.local_first r3 s ∙ ap (cleared w.local_first k) (cleared_on k w.out_first r s)))))
 
 restore_on : (o : Option WinShape) (r s : List Stmt) → restore_code o r ++ s ≡ restore_code o (r ++ s)
 restore_on None r s = refl
@@ -84,16 +94,22 @@ restore_on (Some w) r s =
     let r2 = popped k w.in_first k r in
     let r1 = popped 0 w.local_first k r2 in
     ap (λ l. If (Op Same (Of Wn) (Num 0)) (StopWith 7 (Num 0) ∷ []) ∷ Set Wn (Op Minus (Of Wn) (Num 1)) ∷ l)
-    (moved_on k w.in_first w.out_first r1 s ∙ ap (moved w.in_first w.out_first k) (popped_on k 0 w.local_first r2 s ∙ ap (popped 0 w.local_first k) (popped_on k k w.in_first r s)))
+    (moved_on k w.in_first w.out_first r1 s
+    ∙ ap (moved w.in_first w.out_first k)
+    (popped_on k 0 w.local_first r2 s ∙ ap (popped 0 w.local_first k) (popped_on k k w.in_first r s)))
 
-pub act_on : (m : Machine) (pc : ℕ) (act : Act) (r s : List Stmt) → act_code m pc act r ++ s ≡ act_code m pc act (r ++ s)
-act_on m pc (SetCell c e) r s = code_on m pc (term_of e) 4 (set_c m.zero c (temp 4) r) s ∙ ap (code m pc (term_of e) 4) (set_on m.zero c (temp 4) r s)
+pub act_on : (m : Machine) (pc : ℕ) (act : Act) (r s : List Stmt)
+    → act_code m pc act r ++ s ≡ act_code m pc act (r ++ s)
+act_on m pc (SetCell c e) r s =
+    code_on m pc (term_of e) 4 (set_c m.zero c (temp 4) r) s
+    ∙ ap (code m pc (term_of e) 4) (set_on m.zero c (temp 4) r s)
 act_on m pc (SetSlice c lo hi e) r s =
     let x = with_bits_c lo hi (Of (CellVar c)) (temp 4) in
     code_on m pc (term_of e) 4 (set_c m.zero c x r) s ∙ ap (code m pc (term_of e) 4) (set_on m.zero c x r s)
 act_on m pc (Store n a e) r s =
     let x = StoreAt n (temp 4) (temp 5) in
-    code_on m pc (term_of a) 4 (code m pc (term_of e) 5 (x ∷ r)) s ∙ ap (code m pc (term_of a) 4) (code_on m pc (term_of e) 5 (x ∷ r) s)
+    code_on m pc (term_of a) 4 (code m pc (term_of e) 5 (x ∷ r)) s
+    ∙ ap (code m pc (term_of a) 4) (code_on m pc (term_of e) 5 (x ∷ r) s)
 act_on m pc (Jump e) r s = code_on m pc (term_of e) 4 (Set (Temp 0) (temp 4) ∷ Set (Temp 1) (Num 1) ∷ r) s
 act_on m pc Annul r s = refl
 act_on m pc (Trap e) r s = code_on m pc (term_of e) 4 (StopWith 5 (temp 4) ∷ r) s
@@ -101,14 +117,21 @@ act_on m pc Service r s = refl
 act_on m pc WinSave r s = save_on m.windows r s
 act_on m pc WinRestore r s = restore_on m.windows r s
 
-transfer_on : (m : Machine) (pc : ℕ) (guard : Option Expr) (act : Act) (r s : List Stmt) → transfer_code m pc guard act r ++ s ≡ transfer_code m pc guard act (r ++ s)
+transfer_on : (m : Machine) (pc : ℕ) (guard : Option Expr) (act : Act) (r s : List Stmt)
+    → transfer_code m pc guard act r ++ s ≡ transfer_code m pc guard act (r ++ s)
 transfer_on m pc None act r s = act_on m pc act r s
 transfer_on m pc (Some guard) act r s = code_on m pc (term_of guard) 4 (If (temp 4) (act_code m pc act []) ∷ r) s
 
-transfers_on : (m : Machine) (pc : ℕ) (ts : List Transfer) (r s : List Stmt) → transfers_code m pc ts r ++ s ≡ transfers_code m pc ts (r ++ s)
+transfers_on : (m : Machine) (pc : ℕ) (ts : List Transfer) (r s : List Stmt)
+    → transfers_code m pc ts r ++ s ≡ transfers_code m pc ts (r ++ s)
 transfers_on m pc [] r s = refl
-transfers_on m pc (t ∷ ts) r s = transfer_on m pc t.guard t.act (transfers_code m pc ts r) s ∙ ap (transfer_code m pc t.guard t.act) (transfers_on m pc ts r s)
+transfers_on m pc (t ∷ ts) r s =
+    transfer_on m pc t.guard t.act (transfers_code m pc ts r) s
+    ∙ ap (transfer_code m pc t.guard t.act) (transfers_on m pc ts r s)
 
 -- the statements of an instruction before a rest are its statements, and then the rest
-pub lowered_onto : (m : Machine) (pc : ℕ) (ts : List Transfer) (rest : List Stmt) → lowered m pc ts rest ≡ lowered m pc ts [] ++ rest
-lowered_onto m pc ts rest = ap (λ l. Set (Temp 0) (Num 0) ∷ Set (Temp 1) (Num 0) ∷ Set (Temp 2) (Num 0) ∷ Set (Temp 3) (Num 0) ∷ l) (sym (transfers_on m pc ts [] rest))
+pub lowered_onto : (m : Machine) (pc : ℕ) (ts : List Transfer) (rest : List Stmt)
+    → lowered m pc ts rest ≡ lowered m pc ts [] ++ rest
+lowered_onto m pc ts rest =
+    ap (λ l. Set (Temp 0) (Num 0) ∷ Set (Temp 1) (Num 0) ∷ Set (Temp 2) (Num 0) ∷ Set (Temp 3) (Num 0) ∷ l)
+    (sym (transfers_on m pc ts [] rest))

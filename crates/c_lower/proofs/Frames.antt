@@ -44,7 +44,8 @@ pub kept_on : (j k : ℕ) (a b c : Vars) → j ≤ k → Kept j a b → Kept k b
 kept_on j k a b c le h g = record { same = λ v d. g.same v (below_more j k v le d) ∙ h.same v d }
 
 set_below : (k n : ℕ) (vars : Vars) (v : Var) → Below k v → with_var vars (Temp k) n v ≡ vars v
-set_below k n vars (Temp i) h = let ne : k ≢ i = omega arith in ap (λ t. if t then Some n else vars (Temp i)) (ne_eqb k i ne)
+set_below k n vars (Temp i) h =
+    let ne : k ≢ i = omega arith in ap (λ t. if t then Some n else vars (Temp i)) (ne_eqb k i ne)
 set_below k n vars Ra h = refl
 set_below k n vars Pt h = refl
 set_below k n vars (Cell c) h = refl
@@ -60,22 +61,28 @@ kept_set k n vars = record { same = set_below k n vars }
 pub just_set : (k n : ℕ) (vars : Vars) → with_var vars (Temp k) n (Temp k) ≡ Some n
 just_set k n vars = ap (λ t. if t then Some n else vars (Temp k)) (eq-eqb k k refl)
 
-pub shows_kept : (named : ℕ → Bool) (cells : List ℕ) (k : ℕ) (old new : Vars) → Kept k old new → ShowsCells named cells old → ShowsCells named cells new
+pub shows_kept : (named : ℕ → Bool) (cells : List ℕ) (k : ℕ) (old new : Vars) → Kept k old new
+    → ShowsCells named cells old → ShowsCells named cells new
 shows_kept named cells k old new h s = record { reads = λ c n. h.same (Cell c) tt ∙ s.reads c n }
 
 pub temp_is : (k x : ℕ) (mid : Mid) → mid.vars (Temp k) ≡ Some x → Is (sees mid) (temp k) x
 temp_is k x mid h = record { is = value-Of (sees mid) (Temp k) ∙ h }
 
-pub named_is : (named : ℕ → Bool) (cells : List ℕ) (c : ℕ) (mid : Mid) → named c ≡ true → ShowsCells named cells mid.vars → Is (sees mid) (Of (Cell c)) (slice_index cells c)
+pub named_is : (named : ℕ → Bool) (cells : List ℕ) (c : ℕ) (mid : Mid) → named c ≡ true
+    → ShowsCells named cells mid.vars → Is (sees mid) (Of (Cell c)) (slice_index cells c)
 named_is named cells c mid n s = record { is = value-Of (sees mid) (Cell c) ∙ s.reads c n }
 
-module _ (m : Machine) (named : ℕ → Bool) (cells : List ℕ) (fit : Fit m cells) (mid : Mid) (shows : ShowsCells named cells mid.vars) where
-  cell_by : (zero_cell : Option ℕ) (c : ℕ) → m.zero ≡ zero_cell → is_nameable zero_cell named c ≡ true → Is (sees mid) (cell_c zero_cell c) (slice_index cells c)
+module _ (m : Machine) (named : ℕ → Bool) (cells : List ℕ) (fit : Fit m cells) (mid : Mid)
+    (shows : ShowsCells named cells mid.vars) where
+  cell_by : (zero_cell : Option ℕ) (c : ℕ) → m.zero ≡ zero_cell → is_nameable zero_cell named c ≡ true
+      → Is (sees mid) (cell_c zero_cell c) (slice_index cells c)
   cell_by None c e n = named_is named cells c mid n shows
   cell_by (Some z) c e n = by (c == z) refl n
     where
-      by : (t : Bool) → (c == z) ≡ t → (t || named c) ≡ true → Is (sees mid) (if t then Num 0 else Of (Cell c)) (slice_index cells c)
-      by true same n = record { is = value-Num (sees mid) 0 ∙ ap Some (sym (fit.zeroed c (e ∙ ap Some (sym (eqb-true c z same))))) }
+      by : (t : Bool) → (c == z) ≡ t → (t || named c) ≡ true
+          → Is (sees mid) (if t then Num 0 else Of (Cell c)) (slice_index cells c)
+      by true same n =
+          record { is = value-Num (sees mid) 0 ∙ ap Some (sym (fit.zeroed c (e ∙ ap Some (sym (eqb-true c z same))))) }
       by false same n = named_is named cells c mid n shows
 
   -- a cell that may be named reads as its value

@@ -9,12 +9,14 @@ pub mod Appends
 pub mod Bounds
 pub mod Windows
 pub mod Acts
-pub mod Tidy
-pub mod TidyActs
-pub mod Names
 pub mod Parts
 pub mod CodeLaws
 pub mod MoveLaws
 pub mod ActLaws
 pub mod TransferLaws
 pub mod SoundSamples
+pub mod Tidy
+pub mod TidyActs
+pub mod Names
+pub mod GroundNodes
+pub mod GroundBound

@@ -13,7 +13,8 @@ use Rattle.rtl_core.specs.Terms.{Term, Const, Cell, Load, Unary, Binary, Slice, 
 use Rattle.c_lower.specs.Naming.{is_nameable, NamesOnly, GroupOnly, WindowOnly, ActOnly, GuardOnly, TransfersOnly, NamesAll, IsNaming}
 use Rattle.rtl_core.specs.SoundMachine.{AreWindowCells, HaveSoundWindows}
 
-module _ (m : Machine) (windows : HaveSoundWindows m m.windows) (may : ℕ → Bool) (each : (c : ℕ) → c < length m.widths → may c ≡ true) where
+module _ (m : Machine) (windows : HaveSoundWindows m m.windows) (may : ℕ → Bool)
+    (each : (c : ℕ) → c < length m.widths → may c ≡ true) where
   term_names : (t : Term) → IsSoundTerm m.widths t → NamesOnly may t
   term_names (Const w n) s = tt
   term_names (Cell c) s = each c s
@@ -26,11 +27,20 @@ module _ (m : Machine) (windows : HaveSoundWindows m m.windows) (may : ℕ → B
   term_names (Choice c a b) s = (term_names c s.0, term_names a s.1, term_names b s.2)
 
   group_names : (first n : ℕ) → AreWindowCells m first n → GroupOnly may first n
-  group_names first n h = record { each = λ c a b. let at : first + (c - first) ≡ c = omega arith in each c (subst (λ d. d < length m.widths) at (h (c - first) (omega arith)).0) }
+  group_names first n h =
+      record {
+        each = λ c a b. let at : first + (c - first) ≡ c = omega arith in
+            each c (subst (λ d. d < length m.widths) at (h (c - first) (omega arith)).0);
+      }
 
   window_names : (o : Option WinShape) → HaveSoundWindows m o → WindowOnly may o
   window_names None h = tt
-  window_names (Some w) h = let s = h w refl in (group_names w.out_first w.count s.out, group_names w.local_first w.count s.local, group_names w.in_first w.count s.in_)
+  window_names (Some w) h =
+      let s = h w refl in (
+        group_names w.out_first w.count s.out,
+        group_names w.local_first w.count s.local,
+        group_names w.in_first w.count s.in_,
+      )
 
   act_names : (act : Act) → IsSoundAct m act → ActOnly m may act
   act_names (SetCell c e) s = (each c s.0, term_names (term_of e) s.1.0)
@@ -50,8 +60,16 @@ module _ (m : Machine) (windows : HaveSoundWindows m m.windows) (may : ℕ → B
   transfers_names : (ts : List Transfer) → All (IsSoundTransfer m) ts → TransfersOnly m may ts
   transfers_names [] s = tt
   transfers_names (t ∷ ts) s =
-      let first = All-head (IsSoundTransfer m) t ts s in
-      (guard_names t.guard first.guard, act_names t.act first.act, transfers_names ts (All-tail (IsSoundTransfer m) t ts s))
+      let first = All-head (IsSoundTransfer m) t ts s in (
+        guard_names t.guard first.guard,
+        act_names t.act first.act,
+        transfers_names ts (All-tail (IsSoundTransfer m) t ts s),
+      )
 
-pub all_named : (m : Machine) → HaveSoundWindows m m.windows → (ts : List Transfer) → AreSoundTransfers m ts → (named : ℕ → Bool) → NamesAll m named → IsNaming m ts named
-all_named m windows ts sound named all = record { each = transfers_names m windows (is_nameable m.zero named) all.each ts sound.each; never_zero = all.never_zero }
+pub all_named : (m : Machine) → HaveSoundWindows m m.windows → (ts : List Transfer) → AreSoundTransfers m ts
+    → (named : ℕ → Bool) → NamesAll m named → IsNaming m ts named
+all_named m windows ts sound named all =
+    record {
+      each = transfers_names m windows (is_nameable m.zero named) all.each ts sound.each;
+      never_zero = all.never_zero;
+    }

@@ -13,7 +13,9 @@ masked_word x w le =
 
 pub mod_more : (k a m : ℕ) → (a + k * m) % m ≡ a % m
 mod_more zero a m = let e : a + 0 * m ≡ a = omega arith in ap (λ x. x % m) e
-mod_more (suc k) a m = let e : a + suc k * m ≡ a + k * m + m = omega arith in ap (λ x. x % m) e ∙ add-mod_right (a + k * m) m ∙ mod_more k a m
+mod_more (suc k) a m =
+    let e : a + suc k * m ≡ a + k * m + m = omega arith in
+    ap (λ x. x % m) e ∙ add-mod_right (a + k * m) m ∙ mod_more k a m
 
 pub word_parts : (w : ℕ) → w ≤ 64 → (k : ℕ) × (2 ^ 64 ≡ 2 ^ w + k * 2 ^ w)
 word_parts w le =
@@ -23,19 +25,25 @@ word_parts w le =
   where
     split : (a b : ℕ) → 0 < a → a * b ≡ b + (a - 1) * b
     split zero b p = absurd (omega arith)
-    split (suc a) b p = let e : suc a - 1 ≡ a = omega arith in let f : suc a * b ≡ b + a * b = omega arith in subst (λ z. suc a * b ≡ b + z * b) (sym e) f
+    split (suc a) b p =
+        let e : suc a - 1 ≡ a = omega arith in let f : suc a * b ≡ b + a * b = omega arith in
+        subst (λ z. suc a * b ≡ b + z * b) (sym e) f
 
 -- a difference under a mask
-pub masked_minus : (x y w : ℕ) → w ≤ 64 → y ≤ 2 ^ w → bit_and ((x + (2 ^ 64 - y)) % 2 ^ 64) (2 ^ w - 1) ≡ (x + (2 ^ w - y)) % 2 ^ w
+pub masked_minus : (x y w : ℕ) → w ≤ 64 → y ≤ 2 ^ w
+    → bit_and ((x + (2 ^ 64 - y)) % 2 ^ 64) (2 ^ w - 1) ≡ (x + (2 ^ w - y)) % 2 ^ w
 masked_minus x y w le h =
     let p = word_parts w le in
     masked_word (x + (2 ^ 64 - y)) w le ∙ moved (2 ^ 64) (2 ^ w) p.0 p.1 h
   where
     moved : (W m k : ℕ) → W ≡ m + k * m → y ≤ m → (x + (W - y)) % m ≡ (x + (m - y)) % m
-    moved W m k e h = let f : x + (W - y) ≡ x + (m - y) + k * m = omega arith in ap (λ z. z % m) f ∙ mod_more k (x + (m - y)) m
+    moved W m k e h =
+        let f : x + (W - y) ≡ x + (m - y) + k * m = omega arith in ap (λ z. z % m) f ∙ mod_more k (x + (m - y)) m
 
-pub masked_opposite : (y w : ℕ) → w ≤ 64 → y ≤ 2 ^ w → bit_and ((0 + (2 ^ 64 - y)) % 2 ^ 64) (2 ^ w - 1) ≡ (2 ^ w - y) % 2 ^ w
-masked_opposite y w le h = let e : 0 + (2 ^ w - y) ≡ 2 ^ w - y = omega arith in masked_minus 0 y w le h ∙ ap (λ z. z % 2 ^ w) e
+pub masked_opposite : (y w : ℕ) → w ≤ 64 → y ≤ 2 ^ w
+    → bit_and ((0 + (2 ^ 64 - y)) % 2 ^ 64) (2 ^ w - 1) ≡ (2 ^ w - y) % 2 ^ w
+masked_opposite y w le h =
+    let e : 0 + (2 ^ w - y) ≡ 2 ^ w - y = omega arith in masked_minus 0 y w le h ∙ ap (λ z. z % 2 ^ w) e
 
 -- a difference that doesn't wrap
 pub minus_word : (x y W : ℕ) → y ≤ x → x < W → (x + (W - y)) % W ≡ x - y
@@ -52,4 +60,6 @@ pub bits_low : (lo n x : ℕ) → x / 2 ^ lo % 2 ^ n * 2 ^ lo ≤ x
 bits_low lo n x = lower_le (2 ^ lo) (2 ^ n) (pow_pos lo) (pow_pos n)
   where
     lower_le : (a b : ℕ) → 0 < a → 0 < b → x / a % b * a ≤ x
-    lower_le a b p q = let d : b * (x / a / b) + x / a % b ≡ x / a = omega arith in let le : x / a % b ≤ x / a = omega arith in omega (arith, mul-le-mul_left a le)
+    lower_le a b p q =
+        let d : b * (x / a / b) + x / a % b ≡ x / a = omega arith in let le : x / a % b ≤ x / a = omega arith in
+        omega (arith, mul-le-mul_left a le)

@@ -1,7 +1,6 @@
 -- The samples are sound.
 use Rattle.std.proofs.Common.{◌≡◌, ℕ, zero, suc, ◌≤◌, ◌<◌, [], ◌∷◌, refl, sym, ap, ◌∙◌, subst, arith, get_or}
 use Rattle.std.specs.Prelude.{slice_index}
-use Rattle.std.proofs.lemmas.Option.{none-some}
 use Rattle.rtl_core.specs.declared.expr.Bin.TheVariants.{Or}
 use Rattle.rtl_core.specs.declared.expr.Expr.TheVariants as E
 use Rattle.rtl_core.specs.declared.transfer.Transfer.{Transfer}
@@ -20,7 +19,7 @@ widths_small (suc (suc zero)) h = (omega arith, omega arith)
 widths_small (suc (suc (suc c))) h = absurd (omega (arith, h))
 
 pub small_lowerable : IsLowerable small_machine
-small_lowerable = record { widths = record { each = widths_small }; windows = λ w is. absurd (none-some w is) }
+small_lowerable = record { widths = record { each = widths_small }; windows = λ w e. cc }
 
 is_or : term_of or_expression ≡ Binary Or (Cell 1) (Sext 32 (Const 13 8191))
 is_or =

@@ -70,14 +70,18 @@ module _ (p : Program) (base : State) (end : End) where
   stored_then rest mid (Err trap) = Ends base.outer.output (Stops (memory_stop trap))
   stored_then rest mid (Ok memory) = Goes (here rest (record mid { memory = memory }))
 
-  assign_is : (v : Var) (x : ℕ) (xs rest : List Stmt) (mid : Mid) → has v ≡ true → assign p (here xs mid) (At rest end) v x ≡ Goes (here rest (set mid v x))
+  assign_is : (v : Var) (x : ℕ) (xs rest : List Stmt) (mid : Mid) → has v ≡ true
+      → assign p (here xs mid) (At rest end) v x ≡ Goes (here rest (set mid v x))
   assign_is v x xs rest mid ok = ap (λ t. if t then Goes (here rest (set mid v x)) else stuck p (here xs mid)) ok
 
-  load_is : (r : Result ℕ Trap) (v : Var) (xs rest : List Stmt) (mid : Mid) → has v ≡ true → with_access (here xs mid) r (assign p (here xs mid) (At rest end) v) ≡ loaded_then v rest mid r
+  load_is : (r : Result ℕ Trap) (v : Var) (xs rest : List Stmt) (mid : Mid) → has v ≡ true
+      → with_access (here xs mid) r (assign p (here xs mid) (At rest end) v) ≡ loaded_then v rest mid r
   load_is (Err trap) v xs rest mid ok = refl
   load_is (Ok x) v xs rest mid ok = assign_is v x xs rest mid ok
 
-  store_is : (r : Result Contents Trap) (xs rest : List Stmt) (mid : Mid) → with_access (here xs mid) r (λ memory. Goes (here rest (record mid { memory = memory }))) ≡ stored_then rest mid r
+  store_is : (r : Result Contents Trap) (xs rest : List Stmt) (mid : Mid)
+      → with_access (here xs mid) r
+      (λ memory. Goes (here rest (record mid { memory = memory }))) ≡ stored_then rest mid r
   store_is (Err trap) xs rest mid = refl
   store_is (Ok memory) xs rest mid = refl
 
@@ -89,41 +93,54 @@ module _ (p : Program) (base : State) (end : End) where
     pub run_longer : (n m : ℕ) (x : CNext) → n ≤ m → Run n x → Run m x
     run_longer n m x le h = longer (step p) (λ t. t.outer.output ≡ base.outer.output) Q le h
 
-    one : (n : ℕ) (x : Stmt) (rest : List Stmt) (mid : Mid) (z : CNext) → done p (here (x ∷ rest) mid) x rest end ≡ z → Run n z → Run (suc n) (Goes (here (x ∷ rest) mid))
+    one : (n : ℕ) (x : Stmt) (rest : List Stmt) (mid : Mid) (z : CNext) → done p (here (x ∷ rest) mid) x rest end ≡ z
+        → Run n z → Run (suc n) (Goes (here (x ∷ rest) mid))
     one n x rest mid z e h = more (le_refl (suc n)) refl (subst (Run n) (sym e) h)
 
-    pub run_set : (n : ℕ) (v : Var) (e : CExpr) (x : ℕ) (rest : List Stmt) (mid : Mid) → has v ≡ true → Is (sees mid) e x → Run n (Goes (here rest (set mid v x))) → Run (suc n) (Goes (here (Set v e ∷ rest) mid))
+    pub run_set : (n : ℕ) (v : Var) (e : CExpr) (x : ℕ) (rest : List Stmt) (mid : Mid) → has v ≡ true
+        → Is (sees mid) e x → Run n (Goes (here rest (set mid v x))) → Run (suc n) (Goes (here (Set v e ∷ rest) mid))
     run_set n v e x rest mid ok is h =
         let s = here (Set v e ∷ rest) mid in
         one n (Set v e) rest mid (Goes (here rest (set mid v x)))
-        (done-Set p s v e rest end ∙ ap (λ o. given p s o (assign p s (At rest end) v)) is.is ∙ assign_is v x (Set v e ∷ rest) rest mid ok) h
+        (done-Set p s v e rest end ∙ ap (λ o. given p s o (assign p s (At rest end) v)) is.is
+        ∙ assign_is v x (Set v e ∷ rest) rest mid ok) h
 
-    pub run_if : (n : ℕ) (e : CExpr) (x : ℕ) (body rest : List Stmt) (mid : Mid) → Is (sees mid) e x → Run n (Goes (here (choice x (body ++ rest) rest) mid)) → Run (suc n) (Goes (here (If e body ∷ rest) mid))
+    pub run_if : (n : ℕ) (e : CExpr) (x : ℕ) (body rest : List Stmt) (mid : Mid) → Is (sees mid) e x
+        → Run n (Goes (here (choice x (body ++ rest) rest) mid)) → Run (suc n) (Goes (here (If e body ∷ rest) mid))
     run_if n e x body rest mid is h =
         let s = here (If e body ∷ rest) mid in
         one n (If e body) rest mid (Goes (here (choice x (body ++ rest) rest) mid))
-        (done-If p s e body rest end ∙ ap (λ o. given p s o (λ k. Goes (here (choice k (body ++ rest) rest) mid))) is.is) h
+        (done-If p s e body rest end
+        ∙ ap (λ o. given p s o (λ k. Goes (here (choice k (body ++ rest) rest) mid))) is.is) h
 
-    pub run_stop : (n k : ℕ) (e : CExpr) (x : ℕ) (stop : Stop) (rest : List Stmt) (mid : Mid) → x < 2 ^ 32 → slice_get (named_stops x) k ≡ Some stop → Is (sees mid) e x → Q (Ends base.outer.output (Stops stop)) → Run (suc n) (Goes (here (StopWith k e ∷ rest) mid))
+    pub run_stop : (n k : ℕ) (e : CExpr) (x : ℕ) (stop : Stop) (rest : List Stmt) (mid : Mid) → x < 2 ^ 32
+        → slice_get (named_stops x) k ≡ Some stop → Is (sees mid) e x → Q (Ends base.outer.output (Stops stop))
+        → Run (suc n) (Goes (here (StopWith k e ∷ rest) mid))
     run_stop n k e x stop rest mid small named is q =
         let s = here (StopWith k e ∷ rest) mid in
         one n (StopWith k e) rest mid (Ends base.outer.output (Stops stop))
         (done-Stop p s k e rest end ∙ ap (λ o. given p s o (stop_with p s k)) is.is
-        ∙ ap (λ y. given p s (slice_get (named_stops y) k) (λ stop. Ends base.outer.output (Stops stop))) (mod-eq_of_lt small)
+        ∙ ap (λ y. given p s (slice_get (named_stops y) k) (λ stop. Ends base.outer.output (Stops stop)))
+        (mod-eq_of_lt small)
         ∙ ap (λ o. given p s o (λ stop. Ends base.outer.output (Stops stop))) named) (met q)
 
-    pub run_take : (n : ℕ) (v : Var) (e : CExpr) (i : ℕ) (rest : List Stmt) (mid : Mid) → has v ≡ true → i < most_words → Is (sees mid) e i → Run n (Goes (here rest (set mid v (mid.words i)))) → Run (suc n) (Goes (here (TakeW v e ∷ rest) mid))
+    pub run_take : (n : ℕ) (v : Var) (e : CExpr) (i : ℕ) (rest : List Stmt) (mid : Mid) → has v ≡ true → i < most_words
+        → Is (sees mid) e i → Run n (Goes (here rest (set mid v (mid.words i))))
+        → Run (suc n) (Goes (here (TakeW v e ∷ rest) mid))
     run_take n v e i rest mid ok lt is h =
         let s = here (TakeW v e ∷ rest) mid in
         one n (TakeW v e) rest mid (Goes (here rest (set mid v (mid.words i))))
         (done-TakeW p s v e rest end ∙ ap (λ o. given p s o (take_word p s (At rest end) v)) is.is
-        ∙ ap (λ t. if t then assign p s (At rest end) v (mid.words i) else stuck p s) (lt-ltb i most_words lt) ∙ assign_is v (mid.words i) (TakeW v e ∷ rest) rest mid ok) h
+        ∙ ap (λ t. if t then assign p s (At rest end) v (mid.words i) else stuck p s) (lt-ltb i most_words lt)
+        ∙ assign_is v (mid.words i) (TakeW v e ∷ rest) rest mid ok) h
 
     -- a word of `uq_w` set
     abbrev pub with_word : Mid → ℕ → ℕ → Mid
     with_word mid i x = record mid { words = λ j. if i == j then x else mid.words j }
 
-    pub run_put : (n : ℕ) (i e : CExpr) (at x : ℕ) (rest : List Stmt) (mid : Mid) → at < most_words → Is (sees mid) i at → Is (sees mid) e x → Run n (Goes (here rest (with_word mid at x))) → Run (suc n) (Goes (here (PutW i e ∷ rest) mid))
+    pub run_put : (n : ℕ) (i e : CExpr) (at x : ℕ) (rest : List Stmt) (mid : Mid) → at < most_words → Is (sees mid) i at
+        → Is (sees mid) e x → Run n (Goes (here rest (with_word mid at x)))
+        → Run (suc n) (Goes (here (PutW i e ∷ rest) mid))
     run_put n i e at x rest mid lt is it h =
         let s = here (PutW i e ∷ rest) mid in
         one n (PutW i e) rest mid (Goes (here rest (with_word mid at x)))
@@ -132,27 +149,34 @@ module _ (p : Program) (base : State) (end : End) where
         ∙ ap (λ t. if t then Goes (here rest (with_word mid at x)) else stuck p s) (lt-ltb at most_words lt)) h
 
     module _ (m : Machine) (header : IsHeaderOf m p) where
-      pub run_load : (n : ℕ) (v : Var) (size : ℕ) (e : CExpr) (a : ℕ) (rest : List Stmt) (mid : Mid) → has v ≡ true → is_size size ≡ true → Is (sees mid) e a
-          → Run n (loaded_then v rest mid (loaded m.order m.align mid.memory size a)) → Run (suc n) (Goes (here (Load v size e ∷ rest) mid))
+      pub run_load : (n : ℕ) (v : Var) (size : ℕ) (e : CExpr) (a : ℕ) (rest : List Stmt) (mid : Mid) → has v ≡ true
+          → is_size size ≡ true → Is (sees mid) e a
+          → Run n (loaded_then v rest mid (loaded m.order m.align mid.memory size a))
+          → Run (suc n) (Goes (here (Load v size e ∷ rest) mid))
       run_load n v size e a rest mid ok sized is h =
           let s = here (Load v size e ∷ rest) mid in
           let go = assign p s (At rest end) v in
           one n (Load v size e) rest mid (loaded_then v rest mid (loaded m.order m.align mid.memory size a))
           (done-Load p s v size e rest end ∙ ap (λ o. given p s o (load_into p s (At rest end) v size)) is.is
-          ∙ ap (λ t. if t then with_access s (loaded p.header.order p.header.align mid.memory size a) go else stuck p s) sized
+          ∙ ap (λ t. if t then with_access s (loaded p.header.order p.header.align mid.memory size a) go else stuck p s)
+          sized
           ∙ ap (λ o. with_access s (loaded o p.header.align mid.memory size a) go) header.order
           ∙ ap (λ t. with_access s (loaded m.order t mid.memory size a) go) header.align
           ∙ load_is (loaded m.order m.align mid.memory size a) v (Load v size e ∷ rest) rest mid ok) h
 
-      pub run_store : (n size : ℕ) (a e : CExpr) (at x : ℕ) (rest : List Stmt) (mid : Mid) → is_size size ≡ true → Is (sees mid) a at → Is (sees mid) e x
-          → Run n (stored_then rest mid (stored m.order m.align mid.memory size at x)) → Run (suc n) (Goes (here (Store size a e ∷ rest) mid))
+      pub run_store : (n size : ℕ) (a e : CExpr) (at x : ℕ) (rest : List Stmt) (mid : Mid) → is_size size ≡ true
+          → Is (sees mid) a at → Is (sees mid) e x
+          → Run n (stored_then rest mid (stored m.order m.align mid.memory size at x))
+          → Run (suc n) (Goes (here (Store size a e ∷ rest) mid))
       run_store n size a e at x rest mid sized is it h =
           let s = here (Store size a e ∷ rest) mid in
           let go = λ (memory : Contents). Goes (here rest (record mid { memory = memory })) in
           one n (Store size a e) rest mid (stored_then rest mid (stored m.order m.align mid.memory size at x))
-          (done-Store p s size a e rest end ∙ ap (λ o. given p s o (λ a. with_value p s e (store_at p s (At rest end) size a))) is.is
+          (done-Store p s size a e rest end
+          ∙ ap (λ o. given p s o (λ a. with_value p s e (store_at p s (At rest end) size a))) is.is
           ∙ ap (λ o. given p s o (store_at p s (At rest end) size at)) it.is
-          ∙ ap (λ t. if t then with_access s (stored p.header.order p.header.align mid.memory size at x) go else stuck p s) sized
+          ∙ ap (λ t. if t then with_access s
+          (stored p.header.order p.header.align mid.memory size at x) go else stuck p s) sized
           ∙ ap (λ o. with_access s (stored o p.header.align mid.memory size at x) go) header.order
           ∙ ap (λ t. with_access s (stored m.order t mid.memory size at x) go) header.align
           ∙ store_is (stored m.order m.align mid.memory size at x) (Store size a e ∷ rest) rest mid) h

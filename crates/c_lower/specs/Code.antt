@@ -28,12 +28,15 @@ code m pc (Cell c) k rest = Set (Temp k) (cell_c m.zero c) ∷ rest
 code m pc (Load b a) k rest = code m pc a k (LoadInto (Temp k) b (temp k) ∷ rest)
 code m pc (Unary op a) k rest = code m pc a k (Set (Temp k) (unary_c op (width_of m.widths a) (temp k)) ∷ rest)
 code m pc (Binary op a b) k rest =
-    code m pc a k (code m pc b (k + 1) (guarded (is_division op) pc (k + 1) (Set (Temp k) (binary_c op (width_of m.widths a) (temp k) (temp (k + 1))) ∷ rest)))
+    code m pc a k (code m pc b (k + 1)
+    (guarded (is_division op) pc (k + 1)
+    (Set (Temp k) (binary_c op (width_of m.widths a) (temp k) (temp (k + 1))) ∷ rest)))
 code m pc (Slice a lo hi) k rest = code m pc a k (Set (Temp k) (bits_c lo hi (temp k)) ∷ rest)
 code m pc (Zext w a) k rest = code m pc a k rest
 code m pc (Sext w a) k rest = code m pc a k (Set (Temp k) (sign_extended_c (width_of m.widths a) w (temp k)) ∷ rest)
 code m pc (Choice c a b) k rest =
-    code m pc c k (code m pc a (k + 1) (code m pc b (k + 2) (Set (Temp k) (Choose (temp k) (temp (k + 1)) (temp (k + 2))) ∷ rest)))
+    code m pc c k (code m pc a (k + 1)
+    (code m pc b (k + 2) (Set (Temp k) (Choose (temp k) (temp (k + 1)) (temp (k + 2))) ∷ rest)))
 
 -- the most steps of a term's statements, and n more
 abbrev pub steps : Term → ℕ → ℕ

@@ -9,3 +9,4 @@ pub mod Tidy
 pub mod Theorem
 pub mod Lowerable
 pub mod Samples
+pub mod GroundBound

@@ -31,4 +31,6 @@ AllLowered = (m : Machine) → IsLowerable m → (pc : ℕ) → pc < 2 ^ 32 → 
 
 -- sound transfers name only cells that are there
 abbrev pub AllNamed : Type 0
-AllNamed = (m : Machine) → HaveSoundWindows m m.windows → (ts : List Transfer) → AreSoundTransfers m ts → (named : ℕ → Bool) → NamesAll m named → IsNaming m ts named
+AllNamed =
+    (m : Machine) → HaveSoundWindows m m.windows → (ts : List Transfer) → AreSoundTransfers m ts → (named : ℕ → Bool)
+    → NamesAll m named → IsNaming m ts named

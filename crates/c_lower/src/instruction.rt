@@ -136,7 +136,8 @@ fn lower_save(alloc: Global, out: &mut Items<Stmt>, machine: &Machine) -> Result
     requires { HasByteCells machine.now }
     ensures { OnOk result (out.new ≡ out.old ++ save_code machine.now.windows []) }
 {
-    match machine.windows {
+    let windows = machine.windows;
+    match windows {
         Some(windows) => push_save(alloc, out, windows),
         None => Ok(()),
     }
@@ -147,7 +148,8 @@ fn lower_restore(alloc: Global, out: &mut Items<Stmt>, machine: &Machine) -> Res
     requires { HasByteCells machine.now }
     ensures { OnOk result (out.new ≡ out.old ++ restore_code machine.now.windows []) }
 {
-    match machine.windows {
+    let windows = machine.windows;
+    match windows {
         Some(windows) => push_restore(alloc, out, windows),
         None => Ok(()),
     }

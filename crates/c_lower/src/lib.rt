@@ -1,6 +1,7 @@
 //! The statements of one instruction.
 #![tactic(auto)]
 
+ghost use Rattle.c_lower.specs.GroundBound.{AllWithin, AllInstructionsLowered};
 ghost use Rattle.c_lower.specs.Theorem.{AllLowered, AllNamed};
 
 mod expression;
@@ -25,4 +26,14 @@ pub fn lowering_law()
 /// The cells that are named may be all cells but the zero cell.
 pub fn naming_law()
     ensures { AllNamed }
+{}
+
+/// The bounds of an instruction of a sound machine, in the numbers of the machine.
+pub fn bound_law()
+    ensures { AllWithin }
+{}
+
+/// Every instruction of a sound machine is lowered.
+pub fn instruction_law()
+    ensures { AllInstructionsLowered }
 {}
