@@ -12,6 +12,7 @@ mod tests;
 
 /// A described machine and an image for it: what the machine's instructions do and how they are matched,
 /// its conventions, and the bytes that no store changes.
+#[derive(Clone, Copy)]
 pub struct Bundle<'a> {
     pub machine: &'a Machine,
     pub matcher: &'a Matcher,
