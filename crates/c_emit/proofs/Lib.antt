@@ -5,3 +5,6 @@ pub mod LineStep
 pub mod LineStart
 pub mod LineRuns
 pub mod SmallPrograms
+pub mod CellLaws
+pub mod LineLaws
+pub mod TextLaws

@@ -168,7 +168,7 @@ module _ (temps : ℕ) (setting : Setting) (n entry : ℕ) (line_is : IsStraight
       let ts = inst.transfers in
       let g = standing-grounded setting pc inst at.stands in
       let sound = standing-sound setting pc inst machine-sound fits at.stands in
-      let low = is_lowered m (record { widths = machine-sound.widths; windows = machine-sound.windows }) pc fits ts sound (is_named m) (all_named m machine-sound.windows ts sound (is_named m) names-all) temps (line_is.needs pc inst at) in
+      let low = is_lowered m (record { widths = machine-sound.widths; windows = machine-sound.windows }) pc fits ts sound (is_named m) (all_named m machine-sound.windows ts sound (is_named m) names-all) temps (line_is.needs pc inst fits at) in
       let within = all_within m machine-sound g.matched pc g.next inst g.is fits g.fits in
       record { runs = λ p header s declares cells saved shows rest end. longer (step p) _ _ within.steps (low.does.runs p header s declares cells saved shows rest end) }
 

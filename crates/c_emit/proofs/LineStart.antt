@@ -83,12 +83,12 @@ cells-set g (x ∷ cs) =
 
 -- ---- the first cells
 
-index-zeros : (n c : ℕ) → slice_index (replicate n 0) c ≡ 0
+pub index-zeros : (n c : ℕ) → slice_index (replicate n 0) c ≡ 0
 index-zeros zero c = refl
 index-zeros (suc n) zero = refl
 index-zeros (suc n) (suc c) = index-zeros n c
 
-length-zeros : (n : ℕ) → length {A = ℕ} (replicate n 0) ≡ n
+pub length-zeros : (n : ℕ) → length {A = ℕ} (replicate n 0) ≡ n
 length-zeros zero = refl
 length-zeros (suc n) = ap suc (length-zeros n)
 

@@ -140,7 +140,7 @@ module _ (code : List ℕ) (fits : small_entry + length code + 4 ≤ 2 ^ 32) whe
     sound = small_sound;
     entry_fits = omega arith;
     ends = ends-at (length code) small_entry (omega arith);
-    needs = λ pc inst on. (plain-at pc inst on.stands).need;
+    needs = λ pc inst lt on. (plain-at pc inst on.stands).need;
     no_jump = λ pc inst on. (plain-at pc inst on.stands).no_jump;
     no_annul = λ pc inst on. (plain-at pc inst on.stands).no_annul;
     flags = omega arith;

@@ -3,3 +3,4 @@ pub mod SmallText
 pub mod Line
 pub mod LineTheorem
 pub mod SmallPrograms
+pub mod Emitted

@@ -47,7 +47,7 @@ pub record IsStraightLine (temps : ℕ) (setting : Setting) (n entry : ℕ) : Ty
   pub sound : AreSoundTogether setting.encodings setting.machine setting.conv
   pub entry_fits : entry < 2 ^ 32
   pub ends : ends_within setting n entry ≡ true
-  pub needs : (pc : ℕ) (inst : GroundInst) → OnLine setting n entry pc inst → lowered_need inst.transfers ≤ temps
+  pub needs : (pc : ℕ) (inst : GroundInst) → pc < 2 ^ 32 → OnLine setting n entry pc inst → lowered_need inst.transfers ≤ temps
   pub no_jump : (pc : ℕ) (inst : GroundInst) → OnLine setting n entry pc inst → does is_jump inst.transfers ≡ false
   pub no_annul : (pc : ℕ) (inst : GroundInst) → OnLine setting n entry pc inst → does is_annul inst.transfers ≡ false
   pub flags : 4 ≤ temps

@@ -5,6 +5,14 @@ ghost use Rattle.c_emit.specs.LineTheorem.{LinesAreSame, StraightLinesAreSame};
 ghost use Rattle.c_emit.specs.SmallPrograms.{SmallProgramsAreSame};
 ghost use Rattle.c_emit.specs.SmallText.{TextExitsWithThree, SmallBound};
 
+mod cells;
+mod header;
+mod line;
+mod service;
+mod text;
+
+pub use text::line_program;
+
 /// A C text of a program of three instructions, run by the definitions of the C text alone.
 pub fn small_text_exits()
     ensures { TextExitsWithThree }

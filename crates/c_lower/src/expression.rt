@@ -86,8 +86,8 @@ fn width(machine: &Machine, e: &Expr) -> u8
     }
 }
 
-/// A cell as it is read.
-fn cell(machine: &Machine, c: u8) -> CExpr
+/// A cell as it is read: the zero cell is the number 0.
+pub fn cell(machine: &Machine, c: u8) -> CExpr
     ensures { result ≡ cell_c machine.now.zero c }
 {
     match machine.zero {

@@ -116,7 +116,12 @@ fn lower_act(
 }
 
 /// Pushes an assignment of a cell; the zero cell is never assigned.
-fn set_cell(out: &mut Items<Stmt>, machine: &Machine, c: u8, value: CExpr) -> Result<(), AllocError>
+pub fn set_cell(
+    out: &mut Items<Stmt>,
+    machine: &Machine,
+    c: u8,
+    value: CExpr,
+) -> Result<(), AllocError>
     ensures { OnOk result (out.new ≡ out.old ++ set_c machine.now.zero c value []) }
 {
     match machine.zero {

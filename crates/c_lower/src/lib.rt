@@ -14,7 +14,8 @@ mod tests;
 mod window_moves;
 
 pub use c_lang::Stmt;
-pub use instruction::lower;
+pub use expression::cell;
+pub use instruction::{lower, set_cell};
 pub use temporary_count::temporaries;
 
 /// The law of lowering: on every machine with sound widths and windows, the statements of sound transfers do

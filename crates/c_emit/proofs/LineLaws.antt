@@ -1,0 +1,80 @@
+-- What stands at an address, by what was found there; and what lowering asks of it.
+use Rattle.std.proofs.Common.{◌≡◌, ℕ, suc, ◌+◌, ◌-◌, ◌^◌, ◌%◌, ◌<◌, ◌≤◌, List, [], ◌∷◌, ◌++◌, append_assoc, map, Option, Some, None, refl, sym, ap, ◌∙◌, subst, arith, append-nil}
+use Rattle.rtl_core.specs.declared.inst.GroundInst.{GroundInst}
+use Rattle.rtl_core.specs.Code.{code_from}
+use Rattle.rtl_core.specs.Grounding.{grounded}
+use Rattle.rtl_core.specs.Matching.{Taken, instruction}
+use Rattle.rtl_core.specs.SoundTerms.{AreSoundTransfers}
+use Rattle.points.proofs.StandingSound.{standing-grounded, standing-sound}
+use Rattle.c_lang.specs.declared.tree.CBlock.{CBlock}
+use Rattle.c_lower.specs.Accounts.{lowered_need}
+use Rattle.c_lower.proofs.GroundBound.{all_within}
+use Rattle.c_emit.specs.Emitted.{setting_of, IsSoundBundle}
+use Rattle.c_emit.specs.Line.{line, line_block, onward, along}
+use Rattle.c_emit.specs.LineTheorem.{lowering}
+use Rattle.decode.specs.declared.Bundle.{Bundle}
+use Rattle.points.specs.Machine.{Setting, Standing, Outside, Illegal, Stands, standing, code_standing, match_standing, ground_standing}
+use Rattle.decode.specs.At.{found, found_in, found_at}
+use Rattle.decode.specs.declared.Found.{Found}
+use Rattle.sled_match.specs.declared.matched.MatchedInst.{MatchedInst}
+
+-- what was found is what stands there
+abbrev IsStanding : Setting → ℕ → Found → Standing → Type 0
+IsStanding setting pc Found.Outside s = s ≡ Outside
+IsStanding setting pc Found.Illegal s = s ≡ Illegal
+IsStanding setting pc (Found.Inst f) s = s ≡ ground_standing (grounded setting.machine f.inst pc ((pc + f.len) % 2 ^ 32))
+
+of-match : (setting : Setting) (pc : ℕ) (o : Option Taken) → IsStanding setting pc (found o) (match_standing setting.machine pc o)
+of-match setting pc None = refl
+of-match setting pc (Some t) = refl
+
+of-code : (setting : Setting) (pc : ℕ) (o : Option (List ℕ)) → IsStanding setting pc (found_in setting.encodings o) (code_standing setting pc o)
+of-code setting pc None = refl
+of-code setting pc (Some bytes) = of-match setting pc (instruction setting.encodings bytes)
+
+of-found : (setting : Setting) (pc : ℕ) (f : Found) → f ≡ found_at setting.encodings setting.frozen pc → IsStanding setting pc f (standing setting pc)
+of-found setting pc f e = subst (λ x. IsStanding setting pc x (standing setting pc)) (sym e) (of-code setting pc (code_from setting.frozen pc))
+
+pub stands_outside : (setting : Setting) (pc : ℕ) → Found.Outside ≡ found_at setting.encodings setting.frozen pc → standing setting pc ≡ Outside
+stands_outside setting pc e = of-found setting pc Found.Outside e
+
+pub stands_illegal : (setting : Setting) (pc : ℕ) → Found.Illegal ≡ found_at setting.encodings setting.frozen pc → standing setting pc ≡ Illegal
+stands_illegal setting pc e = of-found setting pc Found.Illegal e
+
+pub stands_ground : (setting : Setting) (pc : ℕ) (f : MatchedInst) (o : Option GroundInst) → Found.Inst f ≡ found_at setting.encodings setting.frozen pc
+    → o ≡ grounded setting.machine f.inst pc ((pc + f.len) % 2 ^ 32) → standing setting pc ≡ ground_standing o
+stands_ground setting pc f o e g = of-found setting pc (Found.Inst f) e ∙ ap ground_standing (sym g)
+
+-- ---- what lowering asks
+
+module _ (on : Bundle) (pc : ℕ) (inst : GroundInst) (bundle : IsSoundBundle on) where
+  pub few_temporaries : pc < 2 ^ 32 → standing (setting_of on) pc ≡ Stands inst → lowered_need inst.transfers ≤ 261
+  few_temporaries fits stands =
+      let g = standing-grounded (setting_of on) pc inst stands in
+      let within = all_within on.machine.now bundle.sound.machine.machine g.matched pc g.next inst g.is fits g.fits in
+      within.temps
+
+  pub transfers_sound : pc < 2 ^ 32 → standing (setting_of on) pc ≡ Stands inst → AreSoundTransfers on.machine.now inst.transfers
+  transfers_sound fits stands = standing-sound (setting_of on) pc inst bundle.sound.machine.machine fits stands
+
+-- ---- one more block
+
+module _ (setting : Setting) (i n : ℕ) (out all : List CBlock) where
+  abbrev block : ℕ → CBlock
+  block = line_block lowering setting
+
+  pub next_block : i < n → (pc : ℕ) (place : Option ℕ) (next : List CBlock) → out ++ map block (along [] (Some pc) (line setting (n - i))) ≡ all
+      → next ≡ out ++ block pc ∷ [] → place ≡ onward (standing setting pc) → next ++ map block (along [] place (line setting (n - (i + 1)))) ≡ all
+  next_block below pc place next before is goes =
+      let k = n - (i + 1) in
+      let rest = map block (along [] (onward (standing setting pc)) (line setting k)) in
+      let e : n - i ≡ suc k = omega (arith, below) in
+      ap (λ p. next ++ map block (along [] p (line setting k))) goes ∙ ap (λ o. o ++ rest) is ∙ append_assoc out (block pc ∷ []) rest
+      ∙ sym (ap (λ j. out ++ map block (line setting j pc)) e) ∙ before
+
+  pub no_more_blocks : (place : Option ℕ) → n ≤ i → out ++ map block (along [] place (line setting (n - i))) ≡ all → out ≡ all
+  no_more_blocks None past before = sym (append-nil out) ∙ before
+  no_more_blocks (Some pc) past before = let e : n - i ≡ 0 = omega (arith, past) in sym (append-nil out) ∙ sym (ap (λ j. out ++ map block (line setting j pc)) e) ∙ before
+
+  pub line_ended : out ++ map block (along [] None (line setting (n - i))) ≡ all → out ≡ all
+  line_ended before = sym (append-nil out) ∙ before
