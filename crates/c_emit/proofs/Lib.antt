@@ -8,3 +8,4 @@ pub mod SmallPrograms
 pub mod CellLaws
 pub mod LineLaws
 pub mod TextLaws
+pub mod Spelling

@@ -138,9 +138,9 @@ lines-are-same low temps most setting parts n entry sound = record { runs = λ i
 
 -- ---- straight lines of sound triples
 
-module _ (temps : ℕ) (setting : Setting) (n entry : ℕ) (line_is : IsStraightLine temps setting n entry) where
+module _ (setting : Setting) where
   -- the cells that are parameters are all cells but the zero cell
-  names-all : NamesAll setting.machine (is_named setting.machine)
+  pub names-all : NamesAll setting.machine (is_named setting.machine)
   names-all = record { each = λ c h. each c h setting.machine.zero refl; never_zero = never }
     where
       at : (c z : ℕ) → setting.machine.zero ≡ Some z → c < length setting.machine.widths → (b : Bool) → nat_eq c z ≡ b → (b || is_named setting.machine c) ≡ true
@@ -158,6 +158,7 @@ module _ (temps : ℕ) (setting : Setting) (n entry : ℕ) (line_is : IsStraight
       never : (c : ℕ) → setting.machine.zero ≡ Some c → is_named setting.machine c ≡ false
       never c e = rw (e, eq-eqb c c refl) (last-false (nat_lt c (length setting.machine.widths)))
 
+module _ (temps : ℕ) (setting : Setting) (n entry : ℕ) (line_is : IsStraightLine temps setting n entry) where
   machine-sound : IsSoundMachine setting.machine
   machine-sound = line_is.sound.machine.machine
 
@@ -168,7 +169,7 @@ module _ (temps : ℕ) (setting : Setting) (n entry : ℕ) (line_is : IsStraight
       let ts = inst.transfers in
       let g = standing-grounded setting pc inst at.stands in
       let sound = standing-sound setting pc inst machine-sound fits at.stands in
-      let low = is_lowered m (record { widths = machine-sound.widths; windows = machine-sound.windows }) pc fits ts sound (is_named m) (all_named m machine-sound.windows ts sound (is_named m) names-all) temps (line_is.needs pc inst fits at) in
+      let low = is_lowered m (record { widths = machine-sound.widths; windows = machine-sound.windows }) pc fits ts sound (is_named m) (all_named m machine-sound.windows ts sound (is_named m) (names-all setting)) temps (line_is.needs pc inst fits at) in
       let within = all_within m machine-sound g.matched pc g.next inst g.is fits g.fits in
       record { runs = λ p header s declares cells saved shows rest end. longer (step p) _ _ within.steps (low.does.runs p header s declares cells saved shows rest end) }
 

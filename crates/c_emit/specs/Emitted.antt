@@ -1,5 +1,5 @@
 -- What the code that emits a line keeps.
-use Rattle.std.specs.Prelude.{◌≡◌, ℕ, true, false, List, [], map}
+use Rattle.std.specs.Prelude.{◌≡◌, ◌≤◌, ◌-◌, ◌^◌, ℕ, true, false, List, [], map, length, All}
 use Rattle.rtl_core.specs.declared.inst.GroundInst.{GroundInst}
 use Rattle.rtl_core.specs.FirstMemory.{Part}
 use Rattle.rtl_core.specs.SoundConv.{AreSoundTogether}
@@ -39,3 +39,7 @@ pub record IsPlainLine (setting : Setting) (n entry : ℕ) : Type 0 where
 -- a C text is the same as the machine with its image, where that is what its segments are and the line is plain
 abbrev pub IsSameOnPlainLines : Setting → List CSeg → ℕ → ℕ → Program → Type 0
 IsSameOnPlainLines setting segments n entry p = (parts : List Part) → segments ≡ map segment_of parts → IsPlainLine setting n entry → IsSame p setting parts entry
+
+-- no segment has too many bytes for an array
+abbrev pub AreShortSegments : List CSeg → Type 0
+AreShortSegments segments = All (λ s. length s.bytes ≤ 2 ^ 32 - 1) segments

@@ -1,6 +1,7 @@
 //! The C text of a straight line of instructions.
 ghost use Rattle.std.specs.Prelude.{◌≡◌, IfOk};
-ghost use Rattle.c_emit.specs.Emitted.{setting_of, text_of, IsSoundBundle, IsSameOnPlainLines};
+ghost use Rattle.c_emit.specs.Emitted.{setting_of, text_of, IsSoundBundle, IsSameOnPlainLines, AreShortSegments};
+ghost use Rattle.c_lang.specs.Spellable.{HasSpelling};
 
 use crate::cells::{first_values, parameters};
 use crate::header::header;
@@ -15,7 +16,8 @@ const TEMPORARIES: u16 = 261;
 
 /// The C text of the line from `entry` on, at most `most` instructions of it, over a first memory of these
 /// segments: one function with every cell but the zero cell as a parameter. Where no instruction of the line jumps
-/// or annuls and it ends within `most`, the text is the same as the machine. An error is a want of memory.
+/// or annuls and it ends within `most`, the text is the same as the machine. Where no segment is too long for an
+/// array, it can be spelled. An error is a want of memory.
 pub fn line_program(
     alloc: Global,
     on: &Bundle,
@@ -26,6 +28,7 @@ pub fn line_program(
     requires { IsSoundBundle on.now }
     ensures text { IfOk result (λ p. p ≡ text_of (setting_of on.now) segments most entry) }
     ensures same { IfOk result (λ p. IsSameOnPlainLines (setting_of on.now) segments most entry p) }
+    ensures spelled { IfOk result (λ p. AreShortSegments segments → HasSpelling p) }
 {
     let program = line_text(alloc, on, segments, most, entry)?;
     Ok(program)
