@@ -1,5 +1,6 @@
 -- What stands at an address, by what was found there; and what lowering asks of it.
-use Rattle.std.proofs.Common.{◌≡◌, ℕ, suc, ◌+◌, ◌-◌, ◌^◌, ◌%◌, ◌<◌, ◌≤◌, List, [], ◌∷◌, ◌++◌, append_assoc, map, Option, Some, None, refl, sym, ap, ◌∙◌, subst, arith, append-nil}
+use Rattle.std.proofs.Common.{◌≡◌, ℕ, suc, ◌+◌, ◌-◌, ◌^◌, ◌%◌, ◌<◌, ◌≤◌, List, [], ◌∷◌, ◌++◌, append_assoc, map, max, Option, Some, None, refl, sym, ap, ◌∙◌, subst, arith, append-nil}
+use Rattle.std.proofs.Math.Nat.{max-zero}
 use Rattle.rtl_core.specs.declared.inst.GroundInst.{GroundInst}
 use Rattle.rtl_core.specs.Code.{code_from}
 use Rattle.rtl_core.specs.Grounding.{grounded}
@@ -9,7 +10,7 @@ use Rattle.points.proofs.StandingSound.{standing-grounded, standing-sound}
 use Rattle.c_lang.specs.declared.tree.CBlock.{CBlock}
 use Rattle.c_lower.specs.Accounts.{lowered_need}
 use Rattle.c_lower.proofs.GroundBound.{all_within}
-use Rattle.c_emit.specs.Emitted.{setting_of, IsSoundBundle}
+use Rattle.c_emit.specs.Emitted.{setting_of, standing_need, most_need, IsSoundBundle}
 use Rattle.c_emit.specs.Line.{line, line_block, onward, along}
 use Rattle.c_emit.specs.LineTheorem.{lowering}
 use Rattle.decode.specs.declared.Bundle.{Bundle}
@@ -78,3 +79,26 @@ module _ (setting : Setting) (i n : ℕ) (out all : List CBlock) where
 
   pub line_ended : out ++ map block (along [] None (line setting (n - i))) ≡ all → out ≡ all
   line_ended before = sym (append-nil out) ∙ before
+
+-- ---- its temporaries
+
+module _ (setting : Setting) (i n : ℕ) where
+  pub next_need : i < n → (pc : ℕ) (place : Option ℕ) (t next all : ℕ) → max t (most_need setting (along [] (Some pc) (line setting (n - i)))) ≡ all
+      → next ≡ max t (standing_need (standing setting pc)) → place ≡ onward (standing setting pc) → max next (most_need setting (along [] place (line setting (n - (i + 1))))) ≡ all
+  next_need below pc place t next all before is goes =
+      let k = n - (i + 1) in
+      let need = standing_need (standing setting pc) in
+      let rest = most_need setting (along [] (onward (standing setting pc)) (line setting k)) in
+      let e : n - i ≡ suc k = omega (arith, below) in
+      let joined : max (max t need) rest ≡ max t (max need rest) = omega arith in
+      ap (λ p. max next (most_need setting (along [] p (line setting k)))) goes ∙ ap (λ x. max x rest) is ∙ joined
+      ∙ sym (ap (λ j. max t (most_need setting (line setting j pc))) e) ∙ before
+
+  pub no_more_needs : (place : Option ℕ) (t all : ℕ) → n ≤ i → max t (most_need setting (along [] place (line setting (n - i)))) ≡ all → t ≡ all
+  no_more_needs None t all past before = sym (max-zero t) ∙ before
+  no_more_needs (Some pc) t all past before =
+      let e : n - i ≡ 0 = omega (arith, past) in
+      sym (max-zero t) ∙ sym (ap (λ j. max t (most_need setting (line setting j pc))) e) ∙ before
+
+  pub needs_ended : (t all : ℕ) → max t (most_need setting (along [] None (line setting (n - i)))) ≡ all → t ≡ all
+  needs_ended t all before = sym (max-zero t) ∙ before

@@ -135,7 +135,7 @@ module _ (code : List ℕ) (fits : small_entry + length code + 4 ≤ 2 ^ 32) whe
   plain-at : (pc : ℕ) (inst : GroundInst) → standing setting pc ≡ Stands inst → IsPlain inst.transfers
   plain-at pc inst e = plain pc inst.next inst.transfers (small-at pc inst e).small
 
-  is-straight : IsStraightLine 6 setting (suc (length code)) small_entry
+  pub is-straight : IsStraightLine 6 setting (suc (length code)) small_entry
   is-straight = record {
     sound = small_sound;
     entry_fits = omega arith;

@@ -23,7 +23,7 @@ use Rattle.points.proofs.StepLaws.{standing-next}
 use Rattle.decode.specs.declared.Bundle.{Bundle}
 use Rattle.c_lower.specs.Cells.{cell_c, set_c}
 use Rattle.c_lower.proofs.GroundBound.{instructions_lowered}
-use Rattle.c_emit.specs.Emitted.{setting_of, text_of, enough_temporaries, IsSoundBundle, AreShortSegments}
+use Rattle.c_emit.specs.Emitted.{setting_of, text_of, line_temporaries, IsSoundBundle, AreShortSegments}
 use Rattle.c_emit.specs.Line.{does, is_named, flag_c, answer_c, service_c, service_due_c, served_c, stmts_for, end_for, line_block, onward, along, line, line_function}
 use Rattle.c_emit.specs.LineTheorem.{lowering}
 use Rattle.c_emit.proofs.LineRuns.{names-all}
@@ -244,7 +244,7 @@ pub text_has_spelling : (on : Bundle) (segments : List CSeg) (n entry : ℕ) (p 
     → AreShortSegments segments → HasSpelling p
 text_has_spelling on segments n entry p bundle fits is short =
     let s = setting_of on in
-    let f = line_function lowering enough_temporaries s n entry in
+    let f = line_function lowering (line_temporaries s n entry) s n entry in
     let P : Function → Type 0 = λ f. All BlockHasForm f.blocks in
     subst HasSpelling (sym is) (record {
       blocks = All-cons P f [] (line-form s bundle.sound.machine.machine n entry fits) (All-nil P);

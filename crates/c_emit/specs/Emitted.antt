@@ -1,13 +1,15 @@
 -- What the code that emits a line keeps.
-use Rattle.std.specs.Prelude.{◌≡◌, ◌≤◌, ◌-◌, ◌^◌, ℕ, true, false, List, [], map, length, All}
+use Rattle.std.specs.Prelude.{◌≡◌, ◌≤◌, ◌-◌, ◌^◌, ℕ, true, false, List, [], map, max, length, All}
 use Rattle.rtl_core.specs.declared.inst.GroundInst.{GroundInst}
 use Rattle.rtl_core.specs.FirstMemory.{Part}
 use Rattle.rtl_core.specs.SoundConv.{AreSoundTogether}
 use Rattle.rtl_core.specs.SoundTerms.{is_jump, is_annul}
-use Rattle.points.specs.Machine.{Setting}
+use Rattle.points.specs.Machine.{Setting, Standing, Outside, Illegal, Stands, standing}
 use Rattle.c_lang.specs.declared.tree.CSeg.{CSeg}
 use Rattle.c_lang.specs.declared.tree.Program.{Program}
-use Rattle.c_emit.specs.Line.{does, ends_within, segment_of, line_program}
+use Rattle.c_lang.specs.Spellable.{largest}
+use Rattle.c_lower.specs.Accounts.{lowered_need}
+use Rattle.c_emit.specs.Line.{does, ends_within, line, segment_of, line_program}
 use Rattle.c_emit.specs.LineTheorem.{OnLine, lowering}
 use Rattle.c_emit.specs.Same.{IsSame}
 use Rattle.decode.specs.At.{AreShort}
@@ -22,13 +24,23 @@ pub record IsSoundBundle (on : Bundle) : Type 0 where
   pub sound : AreSoundTogether on.matcher.now on.machine.now on.conv.now
   pub short : AreShort on.frozen.now
 
--- how many temporaries are enough for every instruction of a sound machine
-abbrev pub enough_temporaries : ℕ
-enough_temporaries = 261
+-- the temporaries that the statements of an address take
+abbrev pub standing_need : Standing → ℕ
+standing_need Outside = 0
+standing_need Illegal = 0
+standing_need (Stands inst) = lowered_need inst.transfers
+
+-- the most that one of some addresses needs
+abbrev pub most_need : Setting → List ℕ → ℕ
+most_need setting pcs = largest (map (λ pc. standing_need (standing setting pc)) pcs)
+
+-- the temporaries of a line: enough for each of its instructions, and the first four in any case
+abbrev pub line_temporaries : Setting → ℕ → ℕ → ℕ
+line_temporaries setting n entry = max 4 (most_need setting (line setting n entry))
 
 -- the C text of a line, with these segments
 abbrev pub text_of : Setting → List CSeg → ℕ → ℕ → Program
-text_of setting segments n entry = record (line_program lowering enough_temporaries setting [] n entry) { segments = segments }
+text_of setting segments n entry = record (line_program lowering (line_temporaries setting n entry) setting [] n entry) { segments = segments }
 
 -- a line of at most n instructions without jumps and annuls
 pub record IsPlainLine (setting : Setting) (n entry : ℕ) : Type 0 where

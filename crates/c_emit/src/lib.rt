@@ -35,8 +35,8 @@ pub fn straight_lines_are_same()
     ensures { StraightLinesAreSame }
 {}
 
-/// The same, for every program of the small machine, whatever its bytes are: the premises of the theorem can be
-/// met, and its bound is 362 steps for an instruction.
+/// The same, for every program of the small machine whose addresses, and the word behind it, are below 2^32,
+/// whatever its bytes are: the premises of the theorem can be met, and its bound is 362 steps for an instruction.
 pub fn small_programs_are_same()
     ensures { SmallProgramsAreSame }
 {}

@@ -1,13 +1,14 @@
 //! The blocks of a straight line of instructions.
-ghost use Rattle.std.specs.Prelude.{◌≡◌, ◌++◌, [], ◌∷◌, Some, None, map, OnOk, IfOk};
+ghost use Rattle.std.specs.Prelude.{◌≡◌, ◌++◌, [], ◌∷◌, Some, None, map, max, OnOk, IfOk};
 ghost use Rattle.points.specs.Machine.{Stands, standing};
-ghost use Rattle.c_emit.specs.Emitted.{setting_of, IsSoundBundle};
+ghost use Rattle.c_lower.specs.Accounts.{lowered_need};
+ghost use Rattle.c_emit.specs.Emitted.{setting_of, standing_need, line_temporaries, IsSoundBundle};
 ghost use Rattle.c_emit.specs.Line.{point_at, line, line_block, onward};
 ghost use Rattle.c_emit.specs.LineTheorem.{lowering};
 
 use crate::service::push_service;
 use c_lang::{CBlock, CExpr, End};
-use c_lower::lower;
+use c_lower::{lower, temporaries};
 use decode::{Bundle, Found, inst_at};
 use rtl_core::{GroundInst, Point, Slot, try_ground};
 use sqlite_items::Items;
@@ -18,47 +19,61 @@ const ILLEGAL: u64 = 1;
 /// The stop at an address that is no code.
 const UNDISCOVERED: u64 = 8;
 
+/// A line as blocks.
+#[derive(Drop)]
+pub(crate) struct LineText {
+    /// Its blocks.
+    pub(crate) blocks: Items<CBlock>,
+    /// How many temporaries they take, the first four in any case.
+    pub(crate) temporaries: u16,
+}
+
 /// The blocks of the line from an address on, at most `most` of them, each instruction with its transfers, its
 /// service, and the way to the address behind. An error is a want of memory.
-#[tactic(auto, using(crate::proofs::LineLaws::next_block, crate::proofs::LineLaws::no_more_blocks, crate::proofs::LineLaws::line_ended))]
+#[tactic(auto, using(crate::proofs::LineLaws::no_more_blocks, crate::proofs::LineLaws::line_ended, crate::proofs::LineLaws::no_more_needs, crate::proofs::LineLaws::needs_ended))]
 pub(crate) fn line_blocks(
     alloc: Global,
     on: &Bundle,
     most: usize,
     entry: u32,
-) -> Result<Items<CBlock>, AllocError>
+) -> Result<LineText, AllocError>
     requires { IsSoundBundle on.now }
-    ensures { IfOk result (λ out. out ≡ map (line_block lowering (setting_of on.now)) (line (setting_of on.now) most entry)) }
+    ensures blocks { IfOk result (λ text. text.blocks ≡ map (line_block lowering (setting_of on.now)) (line (setting_of on.now) most entry)) }
+    ensures temporaries { IfOk result (λ text. text.temporaries ≡ line_temporaries (setting_of on.now) most entry) }
 {
-    let mut out = Items::new(alloc);
+    let mut text = LineText {
+        blocks: Items::new(alloc),
+        temporaries: 4,
+    };
     let mut place = Some(entry);
     for _ in 0..most {
         let Some(pc) = place else {
-            return Ok(out);
+            return Ok(text);
         };
-        place = push_block(alloc, &mut out, on, pc)?;
+        place = push_block(alloc, &mut text, on, pc)?;
     }
-    Ok(out)
+    Ok(text)
 }
 
 /// Pushes the block of an address, and answers the address behind, where the line goes on.
 #[tactic(auto, using(crate::proofs::LineLaws::stands_outside, crate::proofs::LineLaws::stands_illegal, crate::proofs::LineLaws::stands_ground))]
 fn push_block(
     alloc: Global,
-    out: &mut Items<CBlock>,
+    text: &mut LineText,
     on: &Bundle,
     pc: u32,
 ) -> Result<Option<u32>, AllocError>
     requires { IsSoundBundle on.now }
-    ensures block { OnOk result (out.new ≡ out.old ++ line_block lowering (setting_of on.now) pc ∷ []) }
+    ensures block { OnOk result (text.new.blocks ≡ text.old.blocks ++ line_block lowering (setting_of on.now) pc ∷ []) }
+    ensures temporaries { OnOk result (text.new.temporaries ≡ max text.old.temporaries (standing_need (standing (setting_of on.now) pc))) }
     ensures onward { IfOk result (λ next. next ≡ onward (standing (setting_of on.now) pc)) }
 {
     match inst_at(on, pc) {
-        Found::Outside => push_stop(alloc, out, pc, UNDISCOVERED),
-        Found::Illegal => push_stop(alloc, out, pc, ILLEGAL),
+        Found::Outside => push_stop(alloc, text, pc, UNDISCOVERED),
+        Found::Illegal => push_stop(alloc, text, pc, ILLEGAL),
         Found::Inst(found) => match try_ground(alloc, on.machine, &found.inst, pc, found.len)? {
-            None => push_stop(alloc, out, pc, ILLEGAL),
-            Some(inst) => push_instruction(alloc, out, on, pc, &inst),
+            None => push_stop(alloc, text, pc, ILLEGAL),
+            Some(inst) => push_instruction(alloc, text, on, pc, &inst),
         },
     }
 }
@@ -66,14 +81,15 @@ fn push_block(
 /// Pushes a block that only stops.
 fn push_stop(
     alloc: Global,
-    out: &mut Items<CBlock>,
+    text: &mut LineText,
     pc: u32,
     number: u64,
 ) -> Result<Option<u32>, AllocError>
-    ensures block { OnOk result (out.new ≡ out.old ++ record { label = point_at pc; stmts = []; end = End.Finish number (CExpr.Num pc) } ∷ []) }
+    ensures block { OnOk result (text.new.blocks ≡ text.old.blocks ++ record { label = point_at pc; stmts = []; end = End.Finish number (CExpr.Num pc) } ∷ []) }
+    ensures temporaries { OnOk result (text.new.temporaries ≡ text.old.temporaries) }
     ensures onward { IfOk result (λ next. next ≡ None) }
 {
-    out.push(CBlock {
+    text.blocks.push(CBlock {
         label: sequential(pc),
         stmts: Items::new(alloc),
         end: End::Finish(number, CExpr::Num(u64::from(pc))),
@@ -84,14 +100,15 @@ fn push_stop(
 /// Pushes the block of an instruction.
 fn push_instruction(
     alloc: Global,
-    out: &mut Items<CBlock>,
+    text: &mut LineText,
     on: &Bundle,
     pc: u32,
     inst: &GroundInst,
 ) -> Result<Option<u32>, AllocError>
     requires sound { IsSoundBundle on.now }
     requires stands { standing (setting_of on.now) pc ≡ Stands inst.now }
-    ensures block { OnOk result (out.new ≡ out.old ++ line_block lowering (setting_of on.now) pc ∷ []) }
+    ensures block { OnOk result (text.new.blocks ≡ text.old.blocks ++ line_block lowering (setting_of on.now) pc ∷ []) }
+    ensures temporaries { OnOk result (text.new.temporaries ≡ max text.old.temporaries (lowered_need inst.now.transfers)) }
     ensures onward { IfOk result (λ next. next ≡ Some inst.now.next) }
 {
     let mut stmts = lower(alloc, on.machine, inst, pc)?;
@@ -102,11 +119,12 @@ fn push_instruction(
         on.conv,
         inst.transfers.as_slice(),
     )?;
-    out.push(CBlock {
+    text.blocks.push(CBlock {
         label: sequential(pc),
         stmts,
         end: End::Goto(sequential(inst.next)),
     })?;
+    text.temporaries = text.temporaries.max(temporaries(inst));
     Ok(Some(inst.next))
 }
 

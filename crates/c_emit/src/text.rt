@@ -2,6 +2,7 @@
 ghost use Rattle.std.specs.Prelude.{◌≡◌, IfOk};
 ghost use Rattle.c_emit.specs.Emitted.{setting_of, text_of, IsSoundBundle, IsSameOnPlainLines, AreShortSegments};
 ghost use Rattle.c_lang.specs.Spellable.{HasSpelling};
+ghost use Rattle.c_unique.specs.Unique.{HasAddresses};
 
 use crate::cells::{first_values, parameters};
 use crate::header::header;
@@ -10,9 +11,6 @@ use c_lang::{CSeg, Function, Program};
 use decode::Bundle;
 use sqlite_items::Items;
 use std::alloc::{AllocError, Global};
-
-/// Temporaries that are enough for every instruction of a sound machine.
-const TEMPORARIES: u16 = 261;
 
 /// The C text of the line from `entry` on, at most `most` instructions of it, over a first memory of these
 /// segments: one function with every cell but the zero cell as a parameter. Where no instruction of the line jumps
@@ -29,6 +27,7 @@ pub fn line_program(
     ensures text { IfOk result (λ p. p ≡ text_of (setting_of on.now) segments most entry) }
     ensures same { IfOk result (λ p. IsSameOnPlainLines (setting_of on.now) segments most entry p) }
     ensures spelled { IfOk result (λ p. AreShortSegments segments → HasSpelling p) }
+    ensures addressed { IfOk result (λ p. HasAddresses p) }
 {
     let program = line_text(alloc, on, segments, most, entry)?;
     Ok(program)
@@ -46,14 +45,14 @@ fn line_text(
 {
     let params = parameters(alloc, on.machine)?;
     let first = first_values(alloc, on.machine, on.conv, params.as_slice())?;
-    let blocks = line_blocks(alloc, on, most, entry)?;
+    let text = line_blocks(alloc, on, most, entry)?;
     let mut functions = Items::new(alloc);
     functions.push(Function {
         entry,
         params,
         cells: Items::new(alloc),
-        temps: TEMPORARIES,
-        blocks,
+        temps: text.temporaries,
+        blocks: text.blocks,
     })?;
     Ok(Program {
         header: header(on.machine, on.conv),

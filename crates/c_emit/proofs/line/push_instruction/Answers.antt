@@ -7,3 +7,6 @@ lower-requires-clause-transfers c = transfers_sound c.args.on.now c.args.pc c.ar
 
 pub lower-requires-clause-temporaries : goal.lower-requires-clause-temporaries
 lower-requires-clause-temporaries c = omega (arith, few_temporaries c.args.on.now c.args.pc c.args.inst.now c.requires.sound c.ranges.pc.fits c.requires.stands)
+
+pub temporaries-requires : goal.temporaries-requires
+temporaries-requires c = omega (arith, few_temporaries c.args.on.now c.args.pc c.args.inst.now c.requires.sound c.ranges.pc.fits c.requires.stands)

@@ -1,0 +1,12 @@
+pub mod Alike
+pub mod Digits
+pub mod Names
+pub mod Rows
+pub mod Expressions
+pub mod FirstTokens
+pub mod Statements
+pub mod Blocks
+pub mod Functions
+pub mod Items
+pub mod Whole
+pub mod Examples

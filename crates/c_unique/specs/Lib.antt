@@ -1,0 +1,2 @@
+pub mod NamedNumbers
+pub mod Unique

@@ -1,0 +1,92 @@
+-- The file that is told as too long is the first one over its limit.
+use Rattle.std.proofs.Common.{◌≡◌, ◌∙◌, ◌⊎◌, inl, inr, List, [], ◌∷◌, ◌++◌, ℕ, ◌<◌, refl, ap, sym, length, arith, length-append}
+use Rattle.std.specs.Prelude.{Option, Some, None, IfSome, IsSomeAnd, MatchOption}
+use Rattle.std.proofs.lemmas.Bool.{lt-ltb, le-ltb}
+use Rattle.edge_io.specs.Files.{Files, Names, IsFile, IsLonger}
+use Rattle.edge_io.specs.Output.{Output}
+use Rattle.uqbt_top.specs.Message.{limit_of}
+use Rattle.uqbt_top.specs.Wanted.{Wanted, AreFiles}
+use Rattle.uqbt_top.specs.Command.{files_of}
+use Rattle.uqbt_top.specs.Causes.{CommandCaused, Caused}
+use Rattle.uqbt_top.specs.Longest.{long_or, first_long, LongIsExact}
+use Rattle.uqbt_top.specs.declared.outcome.FileName.{FileName}
+use Rattle.uqbt_top.specs.declared.outcome.Outcome.{Outcome}
+use Rattle.uqbt_top.specs.declared.outcome.Outcome.TheVariants.{Done, Usage, FileTooLong, NoTemplate, NoMemory, WriteFault, ReadFault}
+
+-- a file that is there and within its limit is passed
+passed_by : (files : Files) (w : Wanted) (bytes : List ℕ) (rest : Option FileName) → IsFile (Some files) w.name (limit_of w.file) bytes
+    → long_or w.file (limit_of w.file) rest (files w.name) ≡ rest
+passed_by files w bytes rest file = rw (file.named, le-ltb (limit_of w.file) (length bytes) file.within) refl
+
+-- where all are within their limits there is none
+none_long : (files : Files) (all : List Wanted) (texts : List (List ℕ)) → AreFiles (Some files) all texts → first_long files all ≡ None
+none_long files [] [] read = refl
+none_long files [] (t ∷ ts) read = absurd read
+none_long files (w ∷ ws) [] read = absurd read
+none_long files (w ∷ ws) (t ∷ ts) read = passed_by files w t (first_long files ws) read.0 ∙ none_long files ws ts read.1
+
+-- a file over its limit is found
+found_long : (file : FileName) (limit : ℕ) (rest : Option FileName) (o : Option (List ℕ)) → IsSomeAnd o (λ bytes. limit < length bytes)
+    → long_or file limit rest o ≡ Some file
+found_long file limit rest None longer = absurd longer
+found_long file limit rest (Some bytes) longer = rw (lt-ltb limit (length bytes) longer) refl
+
+-- behind files within their limits, one that is over its limit is the first
+first_behind : (files : Files) (before : List Wanted) (texts : List (List ℕ)) (this : Wanted) (behind : List Wanted)
+    → AreFiles (Some files) before texts → IsLonger (Some files) this.name (limit_of this.file)
+    → first_long files (before ++ this ∷ behind) ≡ Some this.file
+first_behind files [] [] this behind read longer =
+    found_long this.file (limit_of this.file) (first_long files behind) (files this.name) longer
+first_behind files [] (t ∷ ts) this behind read longer = absurd read
+first_behind files (w ∷ ws) [] this behind read longer = absurd read
+first_behind files (w ∷ ws) (t ∷ ts) this behind read longer =
+    passed_by files w t (first_long files (ws ++ this ∷ behind)) read.0 ∙ first_behind files ws ts this behind read.1 longer
+
+none_is_some : (file : FileName) → ◌≡◌ {A = Option FileName} None (Some file) → ⊥
+none_is_some file h = cc
+
+same_file : (x y : FileName) → ◌≡◌ {A = Option FileName} (Some x) (Some y) → x ≡ y
+same_file x y h = cc
+
+-- a list doesn't stay the same when a name is added
+grows : (names : List (List ℕ)) (name : List ℕ) → names ++ name ∷ [] ≡ names → ⊥
+grows names name same = omega (arith, ap length same, length-append names (name ∷ []))
+
+-- what is said of the first file over its limit
+abbrev Told : Outcome → FileName → Type 0
+Told e file = (e ≡ FileTooLong file) ⊎ (e ≡ NoMemory)
+
+by_answer : (files : Files) (all : List Wanted) (old new : Names) (out out' : Output) (e : Outcome) (file : FileName)
+    → CommandCaused (Some files) all old new out out' e → first_long files all ≡ Some file → new.failed ≡ old.failed → Told e file
+by_answer files all old new out out' Done file did is kept =
+    absurd (none_is_some file (sym (none_long files all did.bytes did.were_read) ∙ is))
+by_answer files all old new out out' Usage file did is kept = absurd did
+by_answer files all old new out out' (FileTooLong f) file did is kept =
+    let due = did.due in
+    let found : first_long files all ≡ Some did.this.file =
+    ap (first_long files) due.whole ∙ first_behind files due.before due.texts did.this due.behind due.were_read did.did.1.longer in
+    inl (ap FileTooLong (did.did.0 ∙ same_file did.this.file file (sym found ∙ is)))
+by_answer files all old new out out' (NoTemplate f line) file did is kept =
+    absurd (none_is_some file (sym (none_long files all did.bytes did.were_read) ∙ is))
+by_answer files all old new out out' NoMemory file did is kept = inr refl
+by_answer files all old new out out' WriteFault file did is kept =
+    absurd (none_is_some file (sym (none_long files all did.bytes did.were_read) ∙ is))
+by_answer files all old new out out' ReadFault file did is kept =
+    absurd (grows old.failed did.this.name (sym did.did.failed ∙ kept))
+
+if_some : {A : Type 0} (o : Option A) (P : A → Type 0) → ((x : A) → o ≡ Some x → P x) → IfSome o P
+if_some None P each = tt
+if_some (Some x) P each = each x refl
+
+by_form : (told : Option Files) (form : Option (List Wanted)) (old new : Names) (out out' : Output) (e : Outcome)
+    → MatchOption form ((e ≡ Usage) × (new ≡ old)) (λ all. CommandCaused told all old new out out' e)
+    → IfSome told (λ files. IfSome form (λ all. IfSome (first_long files all) (λ file. new.failed ≡ old.failed → Told e file)))
+by_form None form old new out out' e did = tt
+by_form (Some files) None old new out out' e did = tt
+by_form (Some files) (Some all) old new out out' e did =
+    if_some (first_long files all) _ (λ file is. by_answer files all old new out out' e file did is)
+
+-- the causes of the answers say it
+pub exactly_long : (told : Option Files) (words : List (List ℕ)) (old new : Names) (out out' : Output) (e : Outcome)
+    → Caused told words old new out out' e → LongIsExact told words old new e
+exactly_long told words old new out out' e did = by_form told (files_of words) old new out out' e did

@@ -1,0 +1,9 @@
+pub mod Message
+pub mod Wanted
+pub mod Command
+pub mod Lines
+pub mod SmallTexts
+pub mod Executable
+pub mod Built
+pub mod Causes
+pub mod Longest
