@@ -1,2 +1,2 @@
 mod Registers
-mod PlainLine
+mod SmallSetting

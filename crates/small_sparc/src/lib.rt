@@ -10,3 +10,6 @@ mod machine;
 mod program;
 
 pub use program::small_program;
+
+#[cfg(test)]
+mod tests;

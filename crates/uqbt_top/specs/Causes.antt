@@ -11,7 +11,8 @@ use Rattle.uqbt_top.specs.Message.{limit_of}
 use Rattle.uqbt_top.specs.Wanted.{Wanted, AreFiles, IsDue}
 use Rattle.uqbt_top.specs.Command.{files_of}
 use Rattle.uqbt_top.specs.Built.{Texts, in_order, IsBuilt, IsUnbuilt}
-use Rattle.small_sparc.specs.Program.{IsSmallProgram}
+use Rattle.points.specs.SmallMachine.{small_setting, small_entry}
+use Rattle.straight.specs.Program.{IsTranslation}
 
 -- one name more failed
 pub record NewFailed (old new : Names) (name : List ℕ) : Type 0 where
@@ -40,13 +41,14 @@ pub record ReadStopped (told : Option Files) (all : List Wanted) (old new : Name
   pub due : IsDue told all this
   pub did : FetchStopped told this old new outcome
 
--- the files' bytes hold what is built, and p is the program of their code
+-- the files' bytes hold what is built, and p is a translation of the executable's code on the small machine: it is
+-- the same, and no other program has its text
 pub record AreOf (bytes : List (List ℕ)) (p : Program) : Type 0 where
   pub texts : Texts
   pub whole : bytes ≡ in_order texts
   pub code : List ℕ
   pub built : IsBuilt texts code
-  pub small : IsSmallProgram code p
+  pub translation : IsTranslation (small_setting code) small_entry code p
 
 -- the first line of the files' bytes that isn't built
 pub record AreUnbuilt (bytes : List (List ℕ)) (file : FileName) (line : ℕ) : Type 0 where

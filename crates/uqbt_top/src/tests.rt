@@ -1,7 +1,6 @@
 // The top call over files, a source and sinks in memory.
 use crate::message::tell;
 use crate::{FileName, Outcome, uqbt_main};
-use byteorder::{BigEndian, ByteOrder};
 use edge_io::{MemSink, MemSource, MemStore, NamedFile, Word};
 use std::alloc::Global;
 use std::test::Fail;
@@ -253,9 +252,14 @@ fn each_answer_has_its_status_and_line(rt: HostRuntime) -> Result<(), Fail> {
 
 // An executable of the one form with this code.
 fn executable(alloc: Global, code: &[u8]) -> Result<Vec<u8>, Fail> {
-    let mut exe = EXE[..84].to_vec(alloc)?;
-    BigEndian::write_u32(&mut exe[68..], code.len() as u32);
-    BigEndian::write_u32(&mut exe[72..], code.len() as u32);
+    let mut exe = Vec::new(alloc);
+    let Ok(size) = u32::try_from(code.len()) else {
+        return Ok(exe);
+    };
+    exe.extend_from_slice(&EXE[..68])?;
+    exe.extend_from_slice(&size.to_be_bytes())?;
+    exe.extend_from_slice(&size.to_be_bytes())?;
+    exe.extend_from_slice(&EXE[76..84])?;
     exe.extend_from_slice(code)?;
     Ok(exe)
 }
@@ -279,7 +283,12 @@ fn translated(alloc: Global, exe: &[u8], failing: u64) -> Result<(Outcome, Vec<u
 }
 
 fn holds(text: &[u8], part: &[u8]) -> bool {
-    text.windows(part.len()).any(|window| window == part)
+    for at in 0..text.len() {
+        if text[at..].starts_with(part) {
+            return true;
+        }
+    }
+    false
 }
 
 #[test]

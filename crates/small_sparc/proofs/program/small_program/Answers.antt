@@ -1,10 +1,15 @@
-use Rattle.std.proofs.Common.{◌∙◌}
-use Rattle.small_sparc.proofs.PlainLine.{small_program_is_same, all-ok, setting_is}
+use Rattle.std.proofs.Common.{◌∙◌, subst, sym}
+use Rattle.points.specs.SmallMachine.{small_entry}
+use Rattle.straight.specs.Straight.{IsStraightProgram}
+use Rattle.small_sparc.proofs.SmallSetting.{setting_is, small_is_straight, of-setting}
 use Rattle.small_sparc.proofs.program.small_program.Goals as goal
+
+pub straight_program-requires : goal.straight_program-requires
+straight_program-requires c =
+    let is = setting_is _ _ _ _ c.args.code.now (c.in_ok-matcher.ensures ∙ c.in_ok-encodings.ensures) c.in_ok-machine.ensures c.conventions-conv.ensures c.in_ok-frozen.ensures in
+    subst (λ s. IsStraightProgram s small_entry c.args.code.now) (sym is) (small_is_straight c.args.code.now c.requires)
 
 pub returns : goal.returns
 returns c =
     let is = setting_is _ _ _ _ c.args.code.now (c.in_ok-matcher.ensures ∙ c.in_ok-encodings.ensures) c.in_ok-machine.ensures c.conventions-conv.ensures c.in_ok-frozen.ensures in
-    all-ok _ _ _ _ c.line_program.result
-    (λ p same spelled addressed. small_program_is_same c.args.code.now _ _ p c.requires is c.in_ok-segments.ensures same spelled addressed c.one_program.ensures)
-    c.line_program.ensures.same c.line_program.ensures.spelled c.line_program.ensures.addressed
+    of-setting _ _ c.args.code.now c.straight_program.result is c.straight_program.ensures
