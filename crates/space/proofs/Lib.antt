@@ -1,0 +1,9 @@
+mod Maps
+mod Rising
+mod Lookups
+mod Rewrites
+mod Meetings
+mod Inserts
+mod Exact
+mod Steps
+mod Traps
