@@ -1,8 +1,10 @@
 -- Laws that the tests rest on: a memory of bytes from address 0 on, and the soundness of their expressions.
-use Rattle.std.proofs.Common.{◌≡◌, ◌≢◌, ℕ, zero, suc, ◌^◌, ◌<◌, ◌≤◌, true, List, [], ◌∷◌, length, set, get_or, refl, sym, ap, ◌∙◌, subst, arith, inl, inr, length-set, get_or-set_other, get_or-set_same}
+use Rattle.std.proofs.Common.{◌≡◌, ◌≢◌, ℕ, zero, suc, ◌^◌, ◌<◌, ◌≤◌, true, List, [], ◌∷◌, length, set, get_or, refl, sym, ap, ◌∙◌, subst, arith, inl, inr, length-set, get_or-set_other, get_or-set_same, ◌-◌, ◌++◌}
 use Rattle.std.specs.Prelude.{nat_lt, if◌then◌else◌, slice_index, Some, None}
 use Rattle.std.proofs.lemmas.Bool.{lt-ltb, le-ltb, cases_lt, cases_eq, eq-eqb, ne_eqb}
+use Rattle.std.proofs.lemmas.List.{length-append, get_or_append_left, set-append_left, set-append_right}
 use Rattle.std.proofs.Math.Path.{fun_ext}
+use Rattle.std.proofs.Math.Seq.{get_or-append_right}
 use Rattle.rtl_core.specs.declared.expr.Bin.{Bin}
 use Rattle.rtl_core.specs.declared.expr.Bin.TheVariants.{Add}
 use Rattle.rtl_core.specs.declared.expr.Un.TheVariants.{Neg}
@@ -96,3 +98,32 @@ choice_sound bit small =
         refl,
       );
     }
+
+-- ---- two ranges that touch
+
+pub ram_low : (xs ys : List ℕ) (i : ℕ) → i < length xs → ram (xs ++ ys) i ≡ Some (record { byte = get_or xs i 0; writes = true })
+ram_low xs ys i h = let k : i < length (xs ++ ys) = omega (arith, length-append xs ys) in ram_in (xs ++ ys) i k ∙ ap (λ n. Some (record { byte = n; writes = true })) (get_or_append_left xs ys 0 i h)
+
+pub ram_high : (xs ys : List ℕ) (i : ℕ) → length xs ≤ i → i - length xs < length ys → ram (xs ++ ys) i ≡ Some (record { byte = get_or ys (i - length xs) 0; writes = true })
+ram_high xs ys i le h =
+    let k : i < length (xs ++ ys) = omega (arith, length-append xs ys) in
+    ram_in (xs ++ ys) i k ∙ ap (λ n. Some (record { byte = n; writes = true })) (get_or-append_right xs ys i 0 le)
+
+pub ram_past : (xs ys : List ℕ) (i : ℕ) → length xs ≤ i → length ys ≤ i - length xs → ram (xs ++ ys) i ≡ None
+ram_past xs ys i le h = let k : length (xs ++ ys) ≤ i = omega (arith, length-append xs ys) in ram_out (xs ++ ys) i k
+
+-- a byte written into the first or the second
+pub put_low : (xs ys : List ℕ) (i v : ℕ) → i < length xs → ram (set xs i v ++ ys) ≡ put (ram (xs ++ ys)) i v
+put_low xs ys i v h =
+    let k : i < length (xs ++ ys) = omega (arith, length-append xs ys) in
+    ap ram (sym (set-append_left xs ys i v h)) ∙ ram_put (xs ++ ys) i v k
+
+pub put_high : (xs ys : List ℕ) (n i v : ℕ) → n ≡ length xs → n ≤ i → i - n < length ys → ram (xs ++ set ys (i - n) v) ≡ put (ram (xs ++ ys)) i v
+put_high xs ys n i v is le h =
+    let k : i < length (xs ++ ys) = omega (arith, length-append xs ys) in
+    ap ram (sym (set-append_right xs ys n i v (sym is) le)) ∙ ram_put (xs ++ ys) i v k
+
+pub put_past : (xs ys : List ℕ) (i v : ℕ) → length xs ≤ i → length ys ≤ i - length xs → ram (xs ++ ys) ≡ put (ram (xs ++ ys)) i v
+put_past xs ys i v le h = let k : length (xs ++ ys) ≤ i = omega (arith, length-append xs ys) in ram_kept (xs ++ ys) i v k
+
+pub ruleset range_laws = (ram_low, ram_high, ram_past, put_low, put_high, put_past)

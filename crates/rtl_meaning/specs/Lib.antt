@@ -1,1 +1,4 @@
 pub mod Sound
+pub mod Saved
+pub mod Effects
+pub mod TestMachine

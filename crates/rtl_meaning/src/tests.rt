@@ -4,54 +4,11 @@ ghost use Rattle.rtl_core.specs.Access.{is_size};
 ghost use Rattle.rtl_meaning.specs.Sound.{IsSoundExpr};
 
 use super::*;
-use rtl_core::{Bin, Cells, Expr, Machine, Memory, Order, Un, Width, load, store};
+use crate::test_memory::Ram;
+use rtl_core::{Bin, Cells, Expr, Machine, Order, Un, Width, load, store};
 use sqlite_items::{Boxed, Items};
 use std::alloc::{AllocError, Global};
 use std::test::Fail;
-
-/// Bytes from address 0 on, all of them writable.
-#[derive(Drop)]
-struct Ram {
-    bytes: Vec<u8>,
-}
-
-impl Memory for Ram {
-    ghost use Rattle.std.specs.Prelude.{ℕ, nat_lt, if◌then◌else◌, length, slice_index, true, Some, None};
-
-    ghost contents = { λ m a. if nat_lt a (length m.bytes.items) then Some (record { byte = slice_index m.bytes.items a; writes = true }) else None };
-
-    ghost whole = { λ _. Unit {0} };
-
-    ghost ready = { λ _. Unit {0} };
-
-    ghost follows = { λ _ _. Unit {0} };
-
-    fn load8(&self, a: u32) -> Option<u8> {
-        let at = a as usize;
-        if at < self.bytes.len() {
-            Some(self.bytes[at])
-        } else {
-            None
-        }
-    }
-
-    fn writable8(&self, a: u32) -> bool {
-        (a as usize) < self.bytes.len()
-    }
-
-    fn store8(&mut self, a: u32, v: u8) -> bool {
-        let at = a as usize;
-        if at < self.bytes.len() {
-            self.bytes[at] = v;
-            return true;
-        }
-        false
-    }
-
-    ghost follows_itself = { λ _. tt };
-
-    ghost follows_on = { λ _ _ _ _ _. tt };
-}
 
 /// A machine with one cell of 32 bits, which aligns and puts the least byte first.
 fn one_cell(alloc: Global) -> Result<Machine, AllocError>
@@ -82,10 +39,11 @@ fn cell_of_two(alloc: Global) -> Result<Cells, AllocError>
     Ok(Cells { values })
 }
 
-/// Four bytes at address 0.
+/// Four bytes at address 0, in two ranges.
 fn four_bytes(alloc: Global) -> Result<Ram, AllocError> {
     Ok(Ram {
-        bytes: [0x01, 0x02, 0x03, 0x84].to_vec(alloc)?,
+        low: [0x01].to_vec(alloc)?,
+        high: [0x02, 0x03, 0x84].to_vec(alloc)?,
     })
 }
 
@@ -218,12 +176,12 @@ fn a_choice_takes_one_side(rt: HostRuntime) -> Result<(), Fail> {
 fn a_store_is_whole_or_none(rt: HostRuntime) -> Result<(), Fail> {
     let mut ram = four_bytes(rt.alloc())?;
     assert_eq!(rt; store(&mut ram, Order::Big, true, 2, 2, 0x1_0A0B), Ok(()));
-    assert_eq!(rt; ram.bytes.as_slice(), [0x01, 0x02, 0x0A, 0x0B].as_slice());
+    assert_eq!(rt; ram.high.as_slice(), [0x02, 0x0A, 0x0B].as_slice());
     assert_eq!(rt;
         store(&mut ram, Order::Big, false, 4, 2, 0),
         Err(Trap::Memory(4))
     );
-    assert_eq!(rt; ram.bytes.as_slice(), [0x01, 0x02, 0x0A, 0x0B].as_slice());
+    assert_eq!(rt; ram.high.as_slice(), [0x02, 0x0A, 0x0B].as_slice());
     assert_eq!(rt; load(&ram, Order::Little, false, 2, 1), Ok(0x0A02));
     Ok(())
 }
