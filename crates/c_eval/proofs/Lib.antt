@@ -1,0 +1,4 @@
+pub mod PlainLaws
+pub mod CallLaws
+pub mod GoesLaws
+pub mod StepPlaces
