@@ -20,7 +20,7 @@ use Rattle.rtl_core.specs.declared.conv.ServiceShape.{ServiceShape}
 use Rattle.rtl_core.specs.declared.machine.Machine.{Machine}
 use Rattle.rtl_core.specs.SoundMachine.{IsSoundMachine}
 use Rattle.rtl_core.specs.SoundConv.{FitsMachine, AreServiceCells, IsCellIfAny}
-use Rattle.rtl_core.specs.SoundTerms.{is_service}
+use Rattle.rtl_core.specs.SoundTerms.{is_service, is_jump, is_annul}
 use Rattle.points.specs.Machine.{Setting, Standing, Outside, Illegal, Stands, standing}
 use Rattle.points.proofs.StandingSound.{standing-grounded}
 use Rattle.points.proofs.StepLaws.{standing-next}
@@ -29,7 +29,7 @@ use Rattle.c_lower.specs.Cells.{cell_c, set_c}
 use Rattle.c_lower.specs.Tidy.{Reads, number, a_cell, a_temp, count, two, three, Tidy, ends, sets_temp, sets_cell, sets_count, loads, stores, takes, puts, tests, stops}
 use Rattle.c_lower.proofs.GroundBound.{instructions_lowered}
 use Rattle.c_emit.specs.Emitted.{setting_of, text_of, line_temporaries, IsSoundBundle}
-use Rattle.c_emit.specs.Line.{does, is_named, named_cells, flag_c, answer_c, service_c, service_due_c, served_c, stmts_for, end_for, line_block, onward, along, line, line_function}
+use Rattle.c_emit.specs.Line.{does, is_named, named_cells, flag_c, answer_c, service_c, service_due_c, served_c, stmts_for, end_for, line_block, onward, along, line, line_function, couple_c, couples_c}
 use Rattle.c_emit.specs.LineTheorem.{lowering}
 use Rattle.c_emit.proofs.CellLaws.{named_there}
 use Rattle.c_emit.proofs.LineStart.{named-below}
@@ -171,6 +171,13 @@ due-narrow m true (Some s) cells few =
     let body = service_c m.zero s in
     narrow (If (Of (Temp 3)) body) [] (rw (number-If (Of (Temp 3)) body, number-Of (Temp 3)) (omega (arith, service-narrow m s (cells s refl) few))) (omega arith)
 
+couple-narrow : (pc : ℕ) (can : Bool) (k : ℕ) → k < 2 ^ 32 → AreNarrow (couple_c pc can k)
+couple-narrow pc false k lt = omega arith
+couple-narrow pc true k lt =
+    let body : List Stmt = Stop 11 (Num pc) ∷ [] in
+    let inner : AreNarrow body = narrow (Stop 11 (Num pc)) [] (rw (number-Stop 11 (Num pc), number-Num pc) (omega arith)) (omega arith) in
+    narrow (If (Of (Temp k)) body) [] (rw (number-If (Of (Temp k)) body, number-Of (Temp k)) (omega (arith, inner, lt))) (omega arith)
+
 narrow-append : (ss rest : List Stmt) → AreNarrow ss → AreNarrow rest → AreNarrow (ss ++ rest)
 narrow-append [] rest h k = k
 narrow-append (s ∷ ss) rest h k = narrow s (ss ++ rest) (omega (arith, h)) (narrow-append ss rest (omega (arith, h)) k)
@@ -193,9 +200,13 @@ module _ (setting : Setting) (sound : IsSoundMachine setting.machine) (fits : Fi
   stmts-narrow pc below (Stands inst) e =
       let g = standing-grounded setting pc inst e in
       let low = instructions_lowered m sound g.matched pc g.next inst g.is below g.fits (is_named m) (names-all setting) 261 (omega arith) in
-      narrow-append (lowering m pc inst.transfers) (served_c m setting.conv inst.transfers)
+      let ts = inst.transfers in
+      let jumps = couple_c pc (does is_jump ts) 1 in
+      let annuls = couple_c pc (does is_annul ts) 2 in
+      narrow-append (lowering m pc ts) (served_c m setting.conv ts ++ couples_c pc ts)
       (tidy-narrow (is_named m) 261 (λ c h. omega (arith, named-below m c h, few_cells)) (omega arith) low.tidy)
-      (due-narrow m (does is_service inst.transfers) setting.conv.service fits.cells few_cells)
+      (narrow-append (served_c m setting.conv ts) (couples_c pc ts) (due-narrow m (does is_service ts) setting.conv.service fits.cells few_cells)
+      (narrow-append jumps annuls (couple-narrow pc (does is_jump ts) 1 (omega arith)) (couple-narrow pc (does is_annul ts) 2 (omega arith))))
 
   end-narrow : (pc : ℕ) → pc < 2 ^ 32 → (s : Standing) → standing setting pc ≡ s → end_number (end_for pc s) < 2 ^ 32
   end-narrow pc below Outside e = rw (number-Num pc) (omega arith)

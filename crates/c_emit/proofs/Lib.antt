@@ -4,7 +4,6 @@ pub mod Middle
 pub mod LineStep
 pub mod LineStart
 pub mod LineRuns
-pub mod SmallPrograms
 pub mod CellLaws
 pub mod LineLaws
 pub mod TextLaws

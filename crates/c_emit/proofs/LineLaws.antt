@@ -1,5 +1,6 @@
 -- What stands at an address, by what was found there; and what lowering asks of it.
-use Rattle.std.proofs.Common.{◌≡◌, ℕ, suc, ◌+◌, ◌-◌, ◌^◌, ◌%◌, ◌<◌, ◌≤◌, List, [], ◌∷◌, ◌++◌, append_assoc, map, max, Option, Some, None, refl, sym, ap, ◌∙◌, subst, arith, append-nil}
+use Rattle.std.specs.Prelude.{is_none}
+use Rattle.std.proofs.Common.{◌≡◌, ℕ, suc, ◌+◌, ◌-◌, ◌^◌, ◌%◌, ◌<◌, ◌≤◌, Bool, true, List, [], ◌∷◌, ◌++◌, append_assoc, map, max, Option, Some, None, refl, sym, ap, ◌∙◌, subst, arith, append-nil}
 use Rattle.std.proofs.Math.Nat.{max-zero}
 use Rattle.rtl_core.specs.declared.inst.GroundInst.{GroundInst}
 use Rattle.rtl_core.specs.Code.{code_from}
@@ -11,7 +12,7 @@ use Rattle.c_lang.specs.declared.tree.CBlock.{CBlock}
 use Rattle.c_lower.specs.Accounts.{lowered_need}
 use Rattle.c_lower.proofs.GroundBound.{all_within}
 use Rattle.c_emit.specs.Emitted.{setting_of, standing_need, most_need, IsSoundBundle}
-use Rattle.c_emit.specs.Line.{line, line_block, onward, along}
+use Rattle.c_emit.specs.Line.{line, line_block, onward, along, ends_within}
 use Rattle.c_emit.specs.LineTheorem.{lowering}
 use Rattle.decode.specs.declared.Bundle.{Bundle}
 use Rattle.points.specs.Machine.{Setting, Standing, Outside, Illegal, Stands, standing, code_standing, match_standing, ground_standing}
@@ -102,3 +103,20 @@ module _ (setting : Setting) (i n : ℕ) where
 
   pub needs_ended : (t all : ℕ) → max t (most_need setting (along [] None (line setting (n - i)))) ≡ all → t ≡ all
   needs_ended t all before = sym (max-zero t) ∙ before
+
+-- ---- its end
+
+module _ (setting : Setting) (i n : ℕ) where
+  pub next_ends : i < n → (pc : ℕ) (place : Option ℕ) (all : Bool) → along true (Some pc) (ends_within setting (n - i)) ≡ all
+      → place ≡ onward (standing setting pc) → along true place (ends_within setting (n - (i + 1))) ≡ all
+  next_ends below pc place all before goes =
+      let k = n - (i + 1) in
+      let e : n - i ≡ suc k = omega (arith, below) in
+      ap (λ p. along true p (ends_within setting k)) goes ∙ sym (ap (λ j. ends_within setting j pc) e) ∙ before
+
+  pub no_more_ends : (place : Option ℕ) (all : Bool) → n ≤ i → along true place (ends_within setting (n - i)) ≡ all → is_none place ≡ all
+  no_more_ends None all past before = before
+  no_more_ends (Some pc) all past before = let e : n - i ≡ 0 = omega (arith, past) in sym (ap (λ j. ends_within setting j pc) e) ∙ before
+
+  pub ends_ended : (all : Bool) → along true None (ends_within setting (n - i)) ≡ all → true ≡ all
+  ends_ended all before = before

@@ -120,7 +120,7 @@ module _ (low : Lowering) (temps most : ℕ) (setting : Setting) (parts : List P
       break_fits = heap-fits;
     }
 
-    in_lockstep : InLockstep (Machine.step setting) (step p) (λ s. s.output) (λ s. s.outer.output) Related (most + 4) first begin
+    in_lockstep : InLockstep (Machine.step setting) (step p) (λ s. s.output) (λ s. s.outer.output) Related (most + 6) first begin
     in_lockstep = record {
       same_out = λ a c r. r.mid.output_is;
       start = met related;
@@ -129,8 +129,8 @@ module _ (low : Lowering) (temps most : ℕ) (setting : Setting) (parts : List P
 
     same : Same (bound setting.machine) (machine_run setting (first_memory parts setting.conv block) entry input) (c_run p block input)
     same =
-        let le : suc (most + 4) ≤ bound setting.machine = omega (arith, sound.short) in
-        let runs = lockstep_runs Machine.State State Stop (Machine.step setting) (step p) (λ s. s.output) (λ s. s.outer.output) Related (most + 4) (bound setting.machine) le first begin in_lockstep in
+        let le : suc (most + 6) ≤ bound setting.machine = omega (arith, sound.short) in
+        let runs = lockstep_runs Machine.State State Stop (Machine.step setting) (step p) (λ s. s.output) (λ s. s.outer.output) Related (most + 6) (bound setting.machine) le first begin in_lockstep in
         subst (λ x. Same (bound setting.machine) (machine_run setting (first_memory parts setting.conv block) entry input) (λ k. target_view (λ s. s.outer.output) (after (step p) k x))) (sym begins) runs
 
 pub lines-are-same : LinesAreSame
@@ -181,8 +181,6 @@ module _ (temps : ℕ) (setting : Setting) (n entry : ℕ) (line_is : IsStraight
     entry_fits = line_is.entry_fits;
     ends = line_is.ends;
     lowered = lowers;
-    no_jump = line_is.no_jump;
-    no_annul = line_is.no_annul;
     flags = line_is.flags;
     short = omega arith;
   }

@@ -17,7 +17,7 @@ use Rattle.c_lang.specs.declared.tree.End.{End}
 use Rattle.c_lang.specs.declared.tree.Program.{Program}
 use Rattle.c_lang.specs.declared.tree.Stmt.{Stmt}
 use Rattle.c_lang.specs.declared.tree.Stmt.TheVariants.{Set}
-use Rattle.c_lang.specs.declared.tree.Var.TheVariants.{Cell}
+use Rattle.c_lang.specs.declared.tree.Var.TheVariants.{Cell, Temp}
 use Rattle.c_lang.specs.Value.{value}
 use Rattle.c_lang.specs.State.{State, CNext, At, seen_vars, declared_in, to_place, put}
 use Rattle.c_lang.specs.Step.{step}
@@ -85,10 +85,14 @@ module _ (m : Machine) (p : Program) (P : State → Type 0) (Q : CNext → Type 
       ap (λ b. if b then Some v else t.top.vars (Cell d)) (ne_eqb c d other) ∙ e ∙ ap Some (sym (get_or-set_other cells c d v 0 apart)))
       (cases_eq c d)
 
+  -- the temporaries are as before
+  abbrev pub KeepsTemps : State → State → Type 0
+  KeepsTemps t u = (k : ℕ) → u.top.vars (Temp k) ≡ t.top.vars (Temp k)
+
   assigned : (t : State) (c v k : ℕ) (e : CExpr) (rest : List Stmt) (end : End) (cells : List ℕ) (saved : List (List ℕ)) (world : World) (output : List ℕ) → Mid m cells saved world output t → P t
       → t.top.place ≡ At (Set (Cell c) e ∷ rest) end → value (seen_vars t) e ≡ Some v → c < length m.widths → v < 2 ^ slice_index m.widths c → ((z : ℕ) → m.zero ≡ Some z → c ≢ z)
       → is_named m c ≡ true → AreDeclared m p
-      → ((u : State) → Mid m (slice_set cells c v) saved world output u → u.top.place ≡ At rest end → u.outer.globals ≡ t.outer.globals → Go k u) → Go (suc k) t
+      → ((u : State) → Mid m (slice_set cells c v) saved world output u → u.top.place ≡ At rest end → u.outer.globals ≡ t.outer.globals → KeepsTemps t u → Go k u) → Go (suc k) t
   assigned t c v k e rest end cells saved world output mid p_t place is h small ne named declared go =
       let u = put (to_place t (At rest end)) (Cell c) v in
       let within : c < length cells = omega (arith, h, mid.fit.count) in
@@ -101,20 +105,20 @@ module _ (m : Machine) (p : Program) (P : State → Type 0) (Q : CNext → Type 
         windows = record { count = mid.windows.count; few = mid.windows.few; words = mid.windows.words; windows = mid.windows.windows };
         world_is = mid.world_is;
         output_is = mid.output_is;
-      }) refl refl)
+      }) refl refl (λ k. refl))
 
   -- a value into a cell, or nothing where it is the zero cell
   pub set-cell : (t : State) (c v k : ℕ) (e : CExpr) (rest : List Stmt) (end : End) (cells : List ℕ) (saved : List (List ℕ)) (world : World) (output : List ℕ) → Mid m cells saved world output t → P t
       → t.top.place ≡ At (set_c m.zero c e rest) end → value (seen_vars t) e ≡ Some v → c < length m.widths → v < 2 ^ slice_index m.widths c → AreDeclared m p
-      → ((u : State) → Mid m (put_cell m.zero c v cells) saved world output u → u.top.place ≡ At rest end → u.outer.globals ≡ t.outer.globals → Go k u) → Go (suc k) t
+      → ((u : State) → Mid m (put_cell m.zero c v cells) saved world output u → u.top.place ≡ At rest end → u.outer.globals ≡ t.outer.globals → KeepsTemps t u → Go k u) → Go (suc k) t
   set-cell t c v k e rest end cells saved world output mid p_t place is h small declared go = by m.zero refl place go
     where
       Then : List ℕ → Type 0
-      Then new = (u : State) → Mid m new saved world output u → u.top.place ≡ At rest end → u.outer.globals ≡ t.outer.globals → Go k u
+      Then new = (u : State) → Mid m new saved world output u → u.top.place ≡ At rest end → u.outer.globals ≡ t.outer.globals → KeepsTemps t u → Go k u
 
       at : (z : ℕ) → m.zero ≡ Some z → (b : Bool) → nat_eq c z ≡ b → t.top.place ≡ At (if b then rest else Set (Cell c) e ∷ rest) end
           → Then (if b then cells else slice_set cells c v) → Go (suc k) t
-      at z o true q place' go' = let le : k ≤ suc k = omega arith in advances_longer (step p) P Q le (Goes t) (go' t mid place' refl)
+      at z o true q place' go' = let le : k ≤ suc k = omega arith in advances_longer (step p) P Q le (Goes t) (go' t mid place' refl (λ j. refl))
       at z o false q place' go' =
           assigned t c v k e rest end cells saved world output mid p_t place' is h small (λ y f. let same : z ≡ y = cc in λ w. eqb-false c z q (w ∙ sym same)) (named-other m c z o q h) declared go'
 

@@ -1,5 +1,5 @@
 -- The C text of a line can be spelled: nothing in it nests deep.
-use Rattle.std.proofs.Common.{◌≡◌, ℕ, zero, suc, ◌<◌, ◌≤◌, ◌^◌, ◌==◌, if◌then◌else◌, max, refl, Bool, true, false, List, [], ◌∷◌, map, Option, Some, None, arith, rules, subst, sym}
+use Rattle.std.proofs.Common.{◌≡◌, ℕ, zero, suc, ◌<◌, ◌≤◌, ◌^◌, ◌==◌, if◌then◌else◌, max, refl, Bool, true, false, List, [], ◌∷◌, ◌++◌, map, Option, Some, None, arith, rules, subst, sym}
 use Rattle.std.specs.Prelude.{All}
 use Rattle.std.proofs.lemmas.List.Elements.{All-cons, All-nil, All-append}
 use Rattle.c_lang.specs.declared.tree.COp.{COp}
@@ -16,7 +16,7 @@ use Rattle.c_lang.specs.declared.tree.Var.TheVariants.{Cell, Temp, ServeR, Serve
 use Rattle.c_lang.specs.Spellable.{largest, above, nesting, deepest, ifs, end_deepest, StmtHasForm, BlockHasForm, HasSpelling}
 use Rattle.rtl_core.specs.declared.conv.ServiceShape.{ServiceShape}
 use Rattle.rtl_core.specs.SoundMachine.{IsSoundMachine}
-use Rattle.rtl_core.specs.SoundTerms.{is_service}
+use Rattle.rtl_core.specs.SoundTerms.{is_service, is_jump, is_annul}
 use Rattle.points.specs.Machine.{Setting, Standing, Outside, Illegal, Stands, standing}
 use Rattle.points.proofs.StandingSound.{standing-grounded}
 use Rattle.points.proofs.StepLaws.{standing-next}
@@ -24,7 +24,7 @@ use Rattle.decode.specs.declared.Bundle.{Bundle}
 use Rattle.c_lower.specs.Cells.{cell_c, set_c}
 use Rattle.c_lower.proofs.GroundBound.{instructions_lowered}
 use Rattle.c_emit.specs.Emitted.{setting_of, text_of, line_temporaries, IsSoundBundle, AreShortSegments}
-use Rattle.c_emit.specs.Line.{does, is_named, flag_c, answer_c, service_c, service_due_c, served_c, stmts_for, end_for, line_block, onward, along, line, line_function}
+use Rattle.c_emit.specs.Line.{does, is_named, flag_c, answer_c, service_c, service_due_c, served_c, stmts_for, end_for, line_block, onward, along, line, line_function, couple_c, couples_c}
 use Rattle.c_emit.specs.LineTheorem.{lowering}
 use Rattle.c_emit.proofs.LineRuns.{names-all}
 use Rattle.c_lower.specs.Tidy.{Reads, number, a_cell, a_temp, count, two, three, Tidy, ends, sets_temp, sets_cell, sets_count, loads, stores, takes, puts, tests, stops}
@@ -203,6 +203,16 @@ due-flat z true (Some shape) =
     flat (If (Of (Temp 3)) body) [] (rw (deepest-If (Of (Temp 3)) body, nesting-Of (Temp 3)) (omega (arith, inner.exprs)))
     (rw (ifs-If (Of (Temp 3)) body) (omega (arith, above-largest (map ifs body), inner.nested))) none-flat
 
+-- ---- control
+
+couple-flat : (pc : ℕ) (can : Bool) (k : ℕ) → AreFlat 7 1 (couple_c pc can k)
+couple-flat pc false k = none-flat
+couple-flat pc true k =
+    let body : List Stmt = Stop 11 (Num pc) ∷ [] in
+    let inner : AreFlat 7 0 body = flat (Stop 11 (Num pc)) [] (rw (deepest-Stop 11 (Num pc), nesting-Num pc) (omega arith)) (rw (ifs-Stop 11 (Num pc)) (omega arith)) none-flat in
+    flat (If (Of (Temp k)) body) [] (rw (deepest-If (Of (Temp k)) body, nesting-Of (Temp k)) (omega (arith, inner.exprs)))
+    (rw (ifs-If (Of (Temp k)) body) (omega (arith, above-largest (map ifs body), inner.nested))) none-flat
+
 -- ---- blocks
 
 module _ (setting : Setting) (sound : IsSoundMachine setting.machine) where
@@ -216,9 +226,15 @@ module _ (setting : Setting) (sound : IsSoundMachine setting.machine) where
       let m = setting.machine in
       let g = standing-grounded setting pc inst e in
       let low = instructions_lowered m sound g.matched pc g.next inst g.is fits g.fits (is_named m) (names-all setting) 261 (omega arith) in
-      All-append StmtHasForm (lowering m pc inst.transfers) (served_c m setting.conv inst.transfers)
-      (flat-form 7 2 (omega arith) (omega arith) (lowering m pc inst.transfers) (tidy-flat low.tidy))
-      (flat-form 7 1 (omega arith) (omega arith) (served_c m setting.conv inst.transfers) (due-flat m.zero (does is_service inst.transfers) setting.conv.service))
+      let ts = inst.transfers in
+      let jumps = couple_c pc (does is_jump ts) 1 in
+      let annuls = couple_c pc (does is_annul ts) 2 in
+      let form : (ss : List Stmt) → AreFlat 7 1 ss → All StmtHasForm ss = λ ss h. flat-form 7 1 (omega arith) (omega arith) ss h in
+      All-append StmtHasForm (lowering m pc ts) (served_c m setting.conv ts ++ couples_c pc ts)
+      (flat-form 7 2 (omega arith) (omega arith) (lowering m pc ts) (tidy-flat low.tidy))
+      (All-append StmtHasForm (served_c m setting.conv ts) (couples_c pc ts)
+      (form (served_c m setting.conv ts) (due-flat m.zero (does is_service ts) setting.conv.service))
+      (All-append StmtHasForm jumps annuls (form jumps (couple-flat pc (does is_jump ts) 1)) (form annuls (couple-flat pc (does is_annul ts) 2))))
 
   end-form : (pc : ℕ) (s : Standing) → end_deepest (end_for pc s) ≤ 2000
   end-form pc Outside = rw (nesting-Num pc) (omega arith)

@@ -1,16 +1,16 @@
 -- What the code that emits a line keeps.
-use Rattle.std.specs.Prelude.{◌≡◌, ◌≤◌, ◌-◌, ◌^◌, ℕ, true, false, List, [], map, max, length, All}
-use Rattle.rtl_core.specs.declared.inst.GroundInst.{GroundInst}
+use Rattle.std.specs.Prelude.{◌≡◌, ◌≤◌, ◌-◌, ◌^◌, ℕ, List, [], map, max, length, All}
 use Rattle.rtl_core.specs.FirstMemory.{Part}
 use Rattle.rtl_core.specs.SoundConv.{AreSoundTogether}
-use Rattle.rtl_core.specs.SoundTerms.{is_jump, is_annul}
 use Rattle.points.specs.Machine.{Setting, Standing, Outside, Illegal, Stands, standing}
 use Rattle.c_lang.specs.declared.tree.CSeg.{CSeg}
 use Rattle.c_lang.specs.declared.tree.Program.{Program}
-use Rattle.c_lang.specs.Spellable.{largest}
+use Rattle.c_lang.specs.Spellable.{largest, HasSpelling}
+use Rattle.c_text.specs.Spells.{Spells}
+use Rattle.c_unique.specs.Unique.{HasAddresses}
 use Rattle.c_lower.specs.Accounts.{lowered_need}
-use Rattle.c_emit.specs.Line.{does, ends_within, line, segment_of, line_program}
-use Rattle.c_emit.specs.LineTheorem.{OnLine, lowering}
+use Rattle.c_emit.specs.Line.{line, segment_of, line_program}
+use Rattle.c_emit.specs.LineTheorem.{lowering}
 use Rattle.c_emit.specs.Same.{IsSame}
 use Rattle.decode.specs.At.{AreShort}
 use Rattle.decode.specs.declared.Bundle.{Bundle}
@@ -42,16 +42,17 @@ line_temporaries setting n entry = max 4 (most_need setting (line setting n entr
 abbrev pub text_of : Setting → List CSeg → ℕ → ℕ → Program
 text_of setting segments n entry = record (line_program lowering (line_temporaries setting n entry) setting [] n entry) { segments = segments }
 
--- a line of at most n instructions without jumps and annuls
-pub record IsPlainLine (setting : Setting) (n entry : ℕ) : Type 0 where
-  pub ends : ends_within setting n entry ≡ true
-  pub no_jump : (pc : ℕ) (inst : GroundInst) → OnLine setting n entry pc inst → does is_jump inst.transfers ≡ false
-  pub no_annul : (pc : ℕ) (inst : GroundInst) → OnLine setting n entry pc inst → does is_annul inst.transfers ≡ false
-
--- a C text is the same as the machine with its image, where that is what its segments are and the line is plain
-abbrev pub IsSameOnPlainLines : Setting → List CSeg → ℕ → ℕ → Program → Type 0
-IsSameOnPlainLines setting segments n entry p = (parts : List Part) → segments ≡ map segment_of parts → IsPlainLine setting n entry → IsSame p setting parts entry
-
 -- no segment has too many bytes for an array
 abbrev pub AreShortSegments : List CSeg → Type 0
 AreShortSegments segments = All (λ s. length s.bytes ≤ 2 ^ 32 - 1) segments
+
+-- A translation of an image: the C program is the same as the machine, it can be spelled, and no other program has
+-- a text of it.
+pub record IsTranslation (setting : Setting) (parts : List Part) (entry : ℕ) (p : Program) : Type 0 where
+  pub same : IsSame p setting parts entry
+  pub spelled : HasSpelling p
+  pub only : (text : List ℕ) (other : Program) → HasAddresses other → Spells text p → Spells text other → other ≡ p
+
+-- it is one of each image whose parts are these segments, where they are short
+abbrev pub TranslatesLines : Setting → List CSeg → ℕ → Program → Type 0
+TranslatesLines setting segments entry p = (parts : List Part) → segments ≡ map segment_of parts → AreShortSegments segments → IsTranslation setting parts entry p

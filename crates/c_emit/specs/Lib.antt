@@ -2,5 +2,4 @@ pub mod Same
 pub mod SmallText
 pub mod Line
 pub mod LineTheorem
-pub mod SmallPrograms
 pub mod Emitted

@@ -1,4 +1,4 @@
--- The C text of a straight line of instructions, where no jump goes anywhere: one function with every cell
+-- The C text of a line of instructions, where no jump goes anywhere: one function with every cell
 -- but the zero cell as a parameter, and one block for each instruction.
 use Rattle.std.specs.Prelude.{ℕ, zero, suc, ◌+◌, ◌==◌, ◌&&◌, not, nat_lt, Bool, true, false, List, [], ◌∷◌, ◌++◌, length, map, filter, slice_index, is_some, Option, Some, None}
 use Rattle.std.specs.List.{list_any}
@@ -10,7 +10,7 @@ use Rattle.rtl_core.specs.declared.point.Point.{Point}
 use Rattle.rtl_core.specs.declared.point.Slot.TheVariants.{Seq}
 use Rattle.rtl_core.specs.declared.transfer.Act.{Act}
 use Rattle.rtl_core.specs.declared.transfer.Transfer.{Transfer}
-use Rattle.rtl_core.specs.SoundTerms.{is_service}
+use Rattle.rtl_core.specs.SoundTerms.{is_service, is_jump, is_annul}
 use Rattle.rtl_core.specs.FirstMemory.{Part, first_cells}
 use Rattle.rtl_core.specs.Services.{numbers_of}
 use Rattle.points.specs.Machine.{Setting, Standing, Outside, Illegal, Stands, standing}
@@ -23,7 +23,7 @@ use Rattle.c_lang.specs.declared.tree.Function.{Function}
 use Rattle.c_lang.specs.declared.tree.Header.{Header}
 use Rattle.c_lang.specs.declared.tree.Program.{Program}
 use Rattle.c_lang.specs.declared.tree.Stmt.{Stmt}
-use Rattle.c_lang.specs.declared.tree.Stmt.TheVariants.{If, Serve}
+use Rattle.c_lang.specs.declared.tree.Stmt.TheVariants.{If, Serve, Stop}
 use Rattle.c_lang.specs.declared.tree.Var.TheVariants.{Temp, ServeR, ServeE}
 use Rattle.c_lower.specs.Cells.{cell_c, set_c}
 
@@ -31,12 +31,15 @@ use Rattle.c_lower.specs.Cells.{cell_c, set_c}
 abbrev pub Lowering : Type 0
 Lowering = Machine → ℕ → List Transfer → List Stmt
 
--- the numbers of the stops that blocks end with
+-- the numbers of the stops of blocks
 abbrev pub illegal_stop : ℕ
 illegal_stop = 1
 
 abbrev pub undiscovered_stop : ℕ
 undiscovered_stop = 8
+
+abbrev pub couple_stop : ℕ
+couple_stop = 11
 
 -- whether some transfer is of a kind of act
 abbrev pub does : (Act → Bool) → List Transfer → Bool
@@ -69,9 +72,18 @@ service_due_c zero_cell _ _ = []
 abbrev pub served_c : Machine → Conv → List Transfer → List Stmt
 served_c m conv ts = service_due_c m.zero (does is_service ts) conv.service
 
--- the statements of an instruction: its transfers, and its service
+-- the stop of an address where a flag is set, of an instruction that can set it
+abbrev pub couple_c : ℕ → Bool → ℕ → List Stmt
+couple_c pc false k = []
+couple_c pc true k = If (Of (Temp k)) (Stop couple_stop (Num pc) ∷ []) ∷ []
+
+-- the stops of an instruction that jumps or annuls
+abbrev pub couples_c : ℕ → List Transfer → List Stmt
+couples_c pc ts = couple_c pc (does is_jump ts) 1 ++ couple_c pc (does is_annul ts) 2
+
+-- the statements of an instruction: its transfers, its service, and its stops where it jumps or annuls
 abbrev pub line_stmts : Lowering → Setting → ℕ → List Transfer → List Stmt
-line_stmts low setting pc ts = low setting.machine pc ts ++ served_c setting.machine setting.conv ts
+line_stmts low setting pc ts = low setting.machine pc ts ++ (served_c setting.machine setting.conv ts ++ couples_c pc ts)
 
 -- the statements of an address
 abbrev pub stmts_for : Lowering → Setting → ℕ → Standing → List Stmt

@@ -1,15 +1,15 @@
--- What makes the C text of a straight line the same as the machine.
-use Rattle.std.specs.Prelude.{[], ◌≡◌, ℕ, ◌+◌, ◌^◌, ◌<◌, ◌≤◌, true, false, List}
+-- What makes the C text of a line the same as the machine.
+use Rattle.std.specs.Prelude.{[], ◌≡◌, ℕ, ◌+◌, ◌^◌, ◌<◌, ◌≤◌, true, List}
 use Rattle.rtl_core.specs.declared.inst.GroundInst.{GroundInst}
 use Rattle.rtl_core.specs.FirstMemory.{Part}
 use Rattle.rtl_core.specs.SoundConv.{IsSoundConv, FitsMachine, AreSoundTogether}
-use Rattle.rtl_core.specs.SoundTerms.{AreWidths, is_jump, is_annul}
+use Rattle.rtl_core.specs.SoundTerms.{AreWidths}
 use Rattle.points.specs.Machine.{Setting, Stands, standing}
 use Rattle.c_lang.specs.State.{has}
 use Rattle.c_lower.specs.Accounts.{lowered_need}
 use Rattle.c_lower.specs.Contract.{DoTransfers}
 use Rattle.c_lower.specs.Lowered.{lowered}
-use Rattle.c_emit.specs.Line.{Lowering, does, is_named, line, ends_within, line_program}
+use Rattle.c_emit.specs.Line.{Lowering, is_named, line, ends_within, line_program}
 use Rattle.c_emit.specs.Same.{bound, IsSame}
 
 -- an instruction stands at an address of the line
@@ -17,8 +17,7 @@ pub record OnLine (setting : Setting) (n entry pc : ℕ) (inst : GroundInst) : T
   pub on : has (line setting n entry) pc ≡ true
   pub stands : standing setting pc ≡ Stands inst
 
--- a line of at most n instructions without jumps and annuls, each of which is lowered within `most`
--- steps and so many temporaries
+-- a line of at most n instructions, each of which is lowered within `most` steps and so many temporaries
 pub record IsSoundLine (low : Lowering) (temps most : ℕ) (setting : Setting) (n entry : ℕ) : Type 0 where
   pub widths : AreWidths setting.machine.widths
   pub conv : IsSoundConv setting.conv
@@ -27,10 +26,8 @@ pub record IsSoundLine (low : Lowering) (temps most : ℕ) (setting : Setting) (
   pub ends : ends_within setting n entry ≡ true
   pub lowered : (pc : ℕ) (inst : GroundInst) → pc < 2 ^ 32 → OnLine setting n entry pc inst
       → DoTransfers setting.machine pc inst.transfers (is_named setting.machine) temps (low setting.machine pc inst.transfers) most
-  pub no_jump : (pc : ℕ) (inst : GroundInst) → OnLine setting n entry pc inst → does is_jump inst.transfers ≡ false
-  pub no_annul : (pc : ℕ) (inst : GroundInst) → OnLine setting n entry pc inst → does is_annul inst.transfers ≡ false
   pub flags : 4 ≤ temps
-  pub short : most + 6 ≤ bound setting.machine
+  pub short : most + 8 ≤ bound setting.machine
 
 -- the C text of a sound line is the same as the machine
 abbrev pub LinesAreSame : Type 0
@@ -41,18 +38,15 @@ LinesAreSame = (low : Lowering) (temps most : ℕ) (setting : Setting) (parts : 
 abbrev pub lowering : Lowering
 lowering m pc ts = lowered m pc ts []
 
--- a line of at most n instructions of a sound triple, without jumps and annuls, that takes at most so many
--- temporaries
+-- a line of at most n instructions of a sound triple that takes at most so many temporaries
 pub record IsStraightLine (temps : ℕ) (setting : Setting) (n entry : ℕ) : Type 0 where
   pub sound : AreSoundTogether setting.encodings setting.machine setting.conv
   pub entry_fits : entry < 2 ^ 32
   pub ends : ends_within setting n entry ≡ true
   pub needs : (pc : ℕ) (inst : GroundInst) → pc < 2 ^ 32 → OnLine setting n entry pc inst → lowered_need inst.transfers ≤ temps
-  pub no_jump : (pc : ℕ) (inst : GroundInst) → OnLine setting n entry pc inst → does is_jump inst.transfers ≡ false
-  pub no_annul : (pc : ℕ) (inst : GroundInst) → OnLine setting n entry pc inst → does is_annul inst.transfers ≡ false
   pub flags : 4 ≤ temps
 
--- the C text of a straight line of a sound triple is the same as the machine
+-- the C text of a line of a sound triple is the same as the machine
 abbrev pub StraightLinesAreSame : Type 0
 StraightLinesAreSame = (temps : ℕ) (setting : Setting) (parts : List Part) (n entry : ℕ) → IsStraightLine temps setting n entry
     → IsSame (line_program lowering temps setting parts n entry) setting parts entry

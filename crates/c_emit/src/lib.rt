@@ -2,10 +2,10 @@
 #![tactic(auto)]
 
 ghost use Rattle.c_emit.specs.LineTheorem.{LinesAreSame, StraightLinesAreSame};
-ghost use Rattle.c_emit.specs.SmallPrograms.{SmallProgramsAreSame};
 ghost use Rattle.c_emit.specs.SmallText.{TextExitsWithThree, SmallBound};
 
 mod cells;
+mod control;
 mod header;
 mod line;
 mod service;
@@ -23,20 +23,14 @@ pub fn small_bound()
     ensures { SmallBound }
 {}
 
-/// The C text of a straight line of instructions is the same as the described machine: whatever the machine
+/// The C text of a line of instructions is the same as the described machine: whatever the machine
 /// writes within n instructions the C writes within the bound times n + 1 steps, it writes nothing else, is
 /// never stuck, and stops exactly when the machine does.
 pub fn lines_are_same()
     ensures { LinesAreSame }
 {}
 
-/// The same, for every sound triple: of a line of instructions without jumps and annuls, whatever else they do.
+/// The same, for every sound triple: whatever the instructions of the line do. One that jumps or annuls stops.
 pub fn straight_lines_are_same()
     ensures { StraightLinesAreSame }
-{}
-
-/// The same, for every program of the small machine whose addresses, and the word behind it, are below 2^32,
-/// whatever its bytes are: the premises of the theorem can be met, and its bound is 362 steps for an instruction.
-pub fn small_programs_are_same()
-    ensures { SmallProgramsAreSame }
 {}

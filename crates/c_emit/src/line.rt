@@ -1,11 +1,12 @@
-//! The blocks of a straight line of instructions.
+//! The blocks of a line of instructions.
 ghost use Rattle.std.specs.Prelude.{◌≡◌, ◌++◌, [], ◌∷◌, Some, None, map, max, OnOk, IfOk};
 ghost use Rattle.points.specs.Machine.{Stands, standing};
 ghost use Rattle.c_lower.specs.Accounts.{lowered_need};
 ghost use Rattle.c_emit.specs.Emitted.{setting_of, standing_need, line_temporaries, IsSoundBundle};
-ghost use Rattle.c_emit.specs.Line.{point_at, line, line_block, onward};
+ghost use Rattle.c_emit.specs.Line.{ends_within, point_at, line, line_block, onward};
 ghost use Rattle.c_emit.specs.LineTheorem.{lowering};
 
+use crate::control::push_stops;
 use crate::service::push_service;
 use c_lang::{CBlock, CExpr, End};
 use c_lower::{lower, temporaries};
@@ -26,11 +27,13 @@ pub(crate) struct LineText {
     pub(crate) blocks: Items<CBlock>,
     /// How many temporaries they take, the first four in any case.
     pub(crate) temporaries: u16,
+    /// Whether the line ends with the last of them.
+    pub(crate) ended: bool,
 }
 
 /// The blocks of the line from an address on, at most `most` of them, each instruction with its transfers, its
-/// service, and the way to the address behind. An error is a want of memory.
-#[tactic(auto, using(crate::proofs::LineLaws::no_more_blocks, crate::proofs::LineLaws::line_ended, crate::proofs::LineLaws::no_more_needs, crate::proofs::LineLaws::needs_ended))]
+/// service, its stops where it jumps or annuls, and the way to the address behind. An error is a want of memory.
+#[tactic(auto, using(crate::proofs::LineLaws::no_more_blocks, crate::proofs::LineLaws::line_ended, crate::proofs::LineLaws::no_more_needs, crate::proofs::LineLaws::needs_ended, crate::proofs::LineLaws::no_more_ends, crate::proofs::LineLaws::ends_ended))]
 pub(crate) fn line_blocks(
     alloc: Global,
     on: &Bundle,
@@ -40,18 +43,22 @@ pub(crate) fn line_blocks(
     requires { IsSoundBundle on.now }
     ensures blocks { IfOk result (λ text. text.blocks ≡ map (line_block lowering (setting_of on.now)) (line (setting_of on.now) most entry)) }
     ensures temporaries { IfOk result (λ text. text.temporaries ≡ line_temporaries (setting_of on.now) most entry) }
+    ensures ended { IfOk result (λ text. text.ended ≡ ends_within (setting_of on.now) most entry) }
 {
     let mut text = LineText {
         blocks: Items::new(alloc),
         temporaries: 4,
+        ended: false,
     };
     let mut place = Some(entry);
     for _ in 0..most {
         let Some(pc) = place else {
+            text.ended = true;
             return Ok(text);
         };
         place = push_block(alloc, &mut text, on, pc)?;
     }
+    text.ended = place.is_none();
     Ok(text)
 }
 
@@ -119,6 +126,7 @@ fn push_instruction(
         on.conv,
         inst.transfers.as_slice(),
     )?;
+    push_stops(alloc, &mut stmts, pc, inst.transfers.as_slice())?;
     text.blocks.push(CBlock {
         label: sequential(pc),
         stmts,

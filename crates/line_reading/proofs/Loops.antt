@@ -1,5 +1,5 @@
 -- How the code reads lists: what it has so far, and what it is still to read.
-use Rattle.std.proofs.Common.{◌≡◌, ℕ, ◌+◌, ◌<◌, ◌≤◌, zero, suc, true, false, List, [], ◌∷◌, ◌++◌, length, drop, Err, refl, sym, ap, ◌∙◌, arith, append_assoc, length-append}
+use Rattle.std.proofs.Common.{◌≡◌, ℕ, ◌+◌, ◌<◌, ◌≤◌, zero, suc, true, false, List, [], ◌∷◌, ◌++◌, length, drop, Err, refl, sym, ap, ◌∙◌, subst, arith, append_assoc, length-append}
 use Rattle.std.proofs.lemmas.List.{append-nil}
 use Rattle.text_lex.specs.declared.token.Token.{Token}
 use Rattle.line_reading.specs.declared.stop.Stop.{Stop}
@@ -29,7 +29,7 @@ pub go_first : {A : Type 0} (k : ℕ) (one : Reader A) (whole : List Token) (x :
 unfolding items
 go_first k one whole x out ts h is = record { left = length ts; enough = omega arith; same = rw (h, is) refl }
 
-onto_onto : {A : Type 0} (xs ys : List A) (o : Read (List A)) → onto xs (onto ys o) ≡ onto (xs ++ ys) o
+pub onto_onto : {A : Type 0} (xs ys : List A) (o : Read (List A)) → onto xs (onto ys o) ≡ onto (xs ++ ys) o
 onto_onto xs ys fails = refl
 onto_onto xs ys (reads zs r) = ap (λ l. reads l r) (sym (append_assoc xs ys zs))
 
@@ -90,3 +90,16 @@ item_falls k one ts more x mid short behind b h =
     let m = short.shorter more x mid h in
     let d : length more ≡ length (drop 1 ts) = ap length (behind_sign k ts more behind b) in
     omega arith
+
+-- the loop over items, one after another
+pub loop_on : {A : Type 0} (k : ℕ) (one : Reader A) (whole : List Token) (out new : List A) (ts more : List Token) (x : A) (mid : List Token) → IsShorter one → Going k one whole out ts → more ≡ without k ts → begins k ts ≡ true → one more ≡ reads x mid → new ≡ out ++ x ∷ [] → Going k one whole new mid
+loop_on k one whole out new ts more x mid short g behind b h is = go_on k one whole out new ts x mid short g b (ap one (sym (behind_sign k ts more behind b)) ∙ h) is
+
+pub loop_end : {A : Type 0} (k : ℕ) (one : Reader A) (whole : List Token) (out : List A) (ts more : List Token) → Going k one whole out ts → more ≡ without k ts → begins k ts ≡ false → items k one whole ≡ reads out more
+loop_end k one whole out ts more g behind b = go_end k one whole out ts g b ∙ ap (λ m. reads out m) (sym (no_sign k ts more behind b))
+
+pub loop_stops : {A : Type 0} (k : ℕ) (one : Reader A) (whole : List Token) (out : List A) (ts behind : List Token) (stop : Stop) (rest more : List Token) → Going k one whole out ts → behind ≡ without k ts → begins k ts ≡ true → Told {A = A} (Err stop) rest (one behind) → Told {A = List A} (Err stop) more (items k one whole)
+loop_stops {A} k one whole out ts behind stop rest more g is b h =
+    go_stops k one whole out ts stop rest more g b (subst (λ us. Told {A = A} (Err stop) rest (one us)) (behind_sign k ts behind is b) h)
+
+pub ruleset loop_laws = (go_first, loop_on, loop_end, loop_stops, first_stops)

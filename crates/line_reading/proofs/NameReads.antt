@@ -1,16 +1,15 @@
 -- Readers of names: what is read was spelled.
-use Rattle.std.proofs.Common.{◌≡◌, ℕ, true, false, List, [], ◌∷◌, ◌++◌, drop, Err, refl, sym, ap, ◌∙◌, subst, ◌⊎◌, inl, inr, length, ◌<◌}
+use Rattle.std.proofs.Common.{◌≡◌, ℕ, true, false, List, [], ◌∷◌, ◌++◌, drop, refl, sym, ap, ◌⊎◌, inl, inr}
 use Rattle.std.specs.Str.{bytes_eq}
 use Rattle.std.proofs.lemmas.Bool.{cases_Bool, true≢false}
 use Rattle.std.proofs.lemmas.Slice.Eq.{bytes_eq-Decides}
 use Rattle.text_lex.specs.declared.token.Token.{Token}
 use Rattle.text_lex.specs.declared.token.Token.TheVariants.{Name, Number, Sign, Bad}
-use Rattle.line_reading.specs.declared.stop.Stop.{Stop}
 use Rattle.line_reading.specs.Signs.{close_paren, comma}
 use Rattle.line_reading.specs.Spelling.{name_toks, listed}
-use Rattle.line_reading.specs.Readings.{reads, Reader, after, give, Told, begins, begins_name, without, this_name, any_name, items, in_parens}
+use Rattle.line_reading.specs.Readings.{reads, Reader, after, give, begins, begins_name, this_name, any_name, in_parens}
 use Rattle.line_reading.proofs.ListReads.{Each, IsRead, IsShown, IsSound, never, as_read, in_parens_reads}
-use Rattle.line_reading.proofs.Loops.{IsShorter, shorter_from_sound, Going, item_falls, go_first, go_on, go_end, go_stops, first_stops, behind_sign, no_sign}
+use Rattle.line_reading.proofs.Loops.{IsShorter, shorter_from_sound}
 
 -- behind a name
 pub record PastName {B : Type 0} (next : List ℕ → Reader B) (ts : List Token) (y : B) (r : List Token) : Type 0 where
@@ -76,26 +75,7 @@ each_name (x ∷ xs) = (record { always = λ r ends. refl }, each_name xs)
 pub names_reads : (names : List (List ℕ)) (r : List Token) → in_parens any_name (listed comma name_toks names ++ Sign close_paren ∷ r) ≡ reads names r
 names_reads names r = in_parens_reads Always any_name name_toks (λ r. tt) (λ r. tt) names r (record { starts = name_begun }) (each_name names)
 
-name_shorter : IsShorter any_name
+pub name_shorter : IsShorter any_name
 name_shorter = shorter_from_sound any_name name_toks Always name_sound
 
-pub name_first : (whole : List Token) (x : List ℕ) (out : List (List ℕ)) (ts : List Token) → any_name whole ≡ reads x ts → out ≡ x ∷ [] → Going comma any_name whole out ts
-name_first whole x out ts h is = go_first comma any_name whole x out ts h is
-
-pub name_on : (whole : List Token) (out new : List (List ℕ)) (ts more : List Token) (x : List ℕ) (mid : List Token) → Going comma any_name whole out ts → more ≡ without comma ts → begins comma ts ≡ true → any_name more ≡ reads x mid → new ≡ out ++ x ∷ [] → Going comma any_name whole new mid
-name_on whole out new ts more x mid g behind b h is = go_on comma any_name whole out new ts x mid name_shorter g b (ap any_name (sym (behind_sign comma ts more behind b)) ∙ h) is
-
-pub name_end : (whole : List Token) (out : List (List ℕ)) (ts more : List Token) → Going comma any_name whole out ts → more ≡ without comma ts → begins comma ts ≡ false → items comma any_name whole ≡ reads out more
-name_end whole out ts more g behind b = go_end comma any_name whole out ts g b ∙ ap (λ m. reads out m) (sym (no_sign comma ts more behind b))
-
-pub name_stops : (whole : List Token) (out : List (List ℕ)) (ts behind : List Token) (stop : Stop) (rest more : List Token) → Going comma any_name whole out ts → behind ≡ without comma ts → begins comma ts ≡ true → Told {A = List ℕ} (Err stop) rest (any_name behind) → Told {A = List (List ℕ)} (Err stop) more (items comma any_name whole)
-name_stops whole out ts behind stop rest more g is b h =
-    go_stops comma any_name whole out ts stop rest more g b (subst (λ us. Told {A = List ℕ} (Err stop) rest (any_name us)) (behind_sign comma ts behind is b) h)
-
-pub name_first_stops : (whole : List Token) (stop : Stop) (rest more : List Token) → Told {A = List ℕ} (Err stop) rest (any_name whole) → Told {A = List (List ℕ)} (Err stop) more (items comma any_name whole)
-name_first_stops whole stop rest more h = first_stops comma any_name whole stop rest more h
-
-pub name_falls : (ts more : List Token) (x : List ℕ) (mid : List Token) → more ≡ without comma ts → begins comma ts ≡ true → any_name more ≡ reads x mid → length mid < length ts
-name_falls ts more x mid behind b h = item_falls comma any_name ts more x mid name_shorter behind b h
-
-pub ruleset name_laws = (name_first, name_on, name_end, name_stops, name_first_stops)
+pub ruleset name_laws = (name_shorter)

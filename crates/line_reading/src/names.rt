@@ -9,7 +9,7 @@ use sqlite_items::Items;
 use std::alloc::Global;
 
 /// `NAME {, NAME}`.
-#[tactic(auto, using(crate::proofs::NameReads::name_laws))]
+#[tactic(auto, using(crate::proofs::Loops::loop_laws, crate::proofs::NameReads::name_laws))]
 pub fn read_names(alloc: Global, cursor: &mut Cursor<'_>) -> Result<Items<Items<u8>>, Stop>
     ensures { Told result cursor.new.rest.now (items comma any_name cursor.old.rest.now) }
 {

@@ -23,7 +23,6 @@ setting_is e m c f code ee em ec ef =
 pub small_is_straight : (code : List ℕ) → length code ≤ 65536 → IsStraightProgram (small_setting code) small_entry code
 small_is_straight code few = record {
   sound = small_sound;
-  straight = refl;
   image = refl;
   below = omega (arith, few);
   short = omega (arith, few);

@@ -1,14 +1,6 @@
 //! The small machine, and one of its programs.
-use crate::machine::machine;
 use crate::small_program;
 use std::test::Fail;
-use straight::has_no_control;
-
-#[test]
-fn the_small_machine_has_no_control(rt: HostRuntime) -> Result<(), Fail> {
-    assert!(rt; has_no_control(&machine(rt.alloc())?));
-    Ok(())
-}
 
 #[test]
 fn each_instruction_and_the_end_have_a_block(rt: HostRuntime) -> Result<(), Fail> {

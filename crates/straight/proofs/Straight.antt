@@ -1,89 +1,18 @@
--- The code of a machine without control is a plain line.
-use Rattle.std.proofs.Common.{◌≡◌, ℕ, zero, suc, ◌+◌, ◌-◌, ◌^◌, ◌%◌, ◌<◌, ◌≤◌, ◌⊎◌, inl, inr, nat_le, nat_lt, Bool, true, false, List, [], ◌∷◌, length, map, slice_get, Option, Some, None, IfSome, refl, sym, ap, ◌∙◌, subst, arith}
-use Rattle.std.specs.List.{list_all}
+-- The line of a code ends.
+use Rattle.std.proofs.Common.{◌≡◌, ℕ, zero, suc, ◌+◌, ◌-◌, ◌^◌, ◌%◌, ◌<◌, ◌≤◌, ◌⊎◌, inl, inr, nat_le, nat_lt, Bool, true, false, List, length, Option, Some, None, IfSome, refl, sym, ap, ◌∙◌, subst, arith}
 use Rattle.std.proofs.Math.Nat.{mod-eq_of_lt}
-use Rattle.std.proofs.lemmas.Bool.{cases_lt, leb-true, ltb-true, le-ltb, lt-leb, and_parts}
+use Rattle.std.proofs.lemmas.Bool.{cases_lt, leb-true, ltb-true, le-ltb, lt-leb}
 use Rattle.std.proofs.lemmas.List.{length-drop}
 use Rattle.rtl_core.specs.declared.inst.GroundInst.{GroundInst}
 use Rattle.rtl_core.specs.declared.inst.Inst.{Inst}
-use Rattle.rtl_core.specs.declared.machine.Form.{Form}
 use Rattle.rtl_core.specs.declared.machine.Machine.{Machine}
-use Rattle.rtl_core.specs.declared.template.TAct.{TAct}
-use Rattle.rtl_core.specs.declared.template.TAct.TheVariants.{Assign, Jump, Annul, Trap, Service, WinSave, WinRestore}
-use Rattle.rtl_core.specs.declared.template.TTransfer.{TTransfer}
-use Rattle.rtl_core.specs.declared.template.Template.{Template}
-use Rattle.rtl_core.specs.declared.template.Template.TheVariants.{Value, Place, Acts}
-use Rattle.rtl_core.specs.declared.expr.Expr.{Expr}
-use Rattle.rtl_core.specs.declared.transfer.Act.{Act}
-use Rattle.rtl_core.specs.declared.transfer.Transfer.{Transfer}
 use Rattle.rtl_core.specs.Code.{code_from}
-use Rattle.rtl_core.specs.Grounding.{Place as GroundPlace, Whole, Bits, Bytes, Site, assigning, ground_act, ground_place, ground_expr, ground_transfer, grounded, operands_of, template_transfers}
 use Rattle.rtl_core.specs.Matching.{Taken, instruction}
-use Rattle.rtl_core.specs.SoundTerms.{is_jump, is_annul}
-use Rattle.sled_match.proofs.Sizes.{IfSome-and_then, IfSome-map, IfSome-any}
 use Rattle.points.specs.Machine.{Setting, Standing, Outside, Illegal, Stands, standing, code_standing, match_standing, ground_standing, matched}
 use Rattle.points.proofs.StepLaws.{HasNext, grounded-next}
-use Rattle.c_emit.specs.Line.{does, ends_within, onward, along}
-use Rattle.c_emit.specs.Emitted.{IsPlainLine}
-use Rattle.straight.specs.Straight.{is_straight, goes_straight, has_no_control, code_image, IsStraightProgram, StraightProgramsArePlain}
+use Rattle.c_emit.specs.Line.{ends_within, onward, along}
+use Rattle.straight.specs.Straight.{code_image, IsStraightProgram, StraightProgramsEnd}
 use Rattle.straight.proofs.Lengths.{Takes, instruction-takes}
-
--- ---- transfers
-
--- no transfer jumps or annuls
-record AreQuiet (ts : List Transfer) : Type 0 where
-  no_jump : does is_jump ts ≡ false
-  no_annul : does is_annul ts ≡ false
-
--- the same of one act
-record IsQuiet (a : Act) : Type 0 where
-  no_jump : is_jump a ≡ false
-  no_annul : is_annul a ≡ false
-
-assigning-quiet : (p : GroundPlace) (e : Expr) → IsQuiet (assigning p e)
-assigning-quiet (Whole c) e = record { no_jump = refl; no_annul = refl }
-assigning-quiet (Bits c lo hi) e = record { no_jump = refl; no_annul = refl }
-assigning-quiet (Bytes n a) e = record { no_jump = refl; no_annul = refl }
-
-act-quiet : (m : Machine) (site : Site) (a : TAct) → is_straight a ≡ true → IsQuiet (ground_act m site a)
-act-quiet m site (Assign p e) h = assigning-quiet (ground_place m site p) (ground_expr m site e)
-act-quiet m site (Jump e) h = let no : ⊥ = cc in absurd no
-act-quiet m site Annul h = let no : ⊥ = cc in absurd no
-act-quiet m site (Trap e) h = record { no_jump = refl; no_annul = refl }
-act-quiet m site Service h = record { no_jump = refl; no_annul = refl }
-act-quiet m site WinSave h = record { no_jump = refl; no_annul = refl }
-act-quiet m site WinRestore h = record { no_jump = refl; no_annul = refl }
-
-acts-quiet : (m : Machine) (site : Site) (ts : List TTransfer) → list_all (λ t. is_straight t.act) ts ≡ true → AreQuiet (map (ground_transfer m site) ts)
-acts-quiet m site [] h = record { no_jump = refl; no_annul = refl }
-acts-quiet m site (t ∷ ts) h =
-    let parts = and_parts (is_straight t.act) (list_all (λ t. is_straight t.act) ts) h in
-    let first = act-quiet m site t.act parts.0 in
-    let rest = acts-quiet m site ts parts.1 in
-    record { no_jump = rw (first.no_jump) rest.no_jump; no_annul = rw (first.no_annul) rest.no_annul }
-
-template-quiet : (m : Machine) (site : Site) (t : Template) → goes_straight t ≡ true → IfSome (template_transfers m site t) AreQuiet
-template-quiet m site (Value e) h = tt
-template-quiet m site (Place p) h = tt
-template-quiet m site (Acts ts) h = acts-quiet m site ts h
-
-form-straight : (forms : List Form) (c : ℕ) (form : Form) → list_all (λ form. goes_straight form.template) forms ≡ true → slice_get forms c ≡ Some form
-    → goes_straight form.template ≡ true
-form-straight [] c form h e = let no : ⊥ = cc in absurd no
-form-straight (first ∷ forms) zero form h e =
-    let same : first ≡ form = cc in
-    subst (λ f. goes_straight f.template ≡ true) same (and_parts (goes_straight first.template) (list_all (λ form. goes_straight form.template) forms) h).0
-form-straight (first ∷ forms) (suc c) form h e = form-straight forms c form (and_parts (goes_straight first.template) (list_all (λ form. goes_straight form.template) forms) h).1 e
-
-grounded-quiet : (m : Machine) → has_no_control m ≡ true → (inst : Inst) (pc next : ℕ) → IfSome (grounded m inst pc next) (λ g. AreQuiet g.transfers)
-unfolding grounded
-grounded-quiet m h inst pc next =
-    IfSome-and_then _ (slice_get m.forms inst.constructor) (λ form. slice_get m.forms inst.constructor ≡ Some form) (λ g. AreQuiet g.transfers)
-    (IfSome-any (slice_get m.forms inst.constructor) _ (λ form e. e)) (λ form e.
-    IfSome-and_then _ (operands_of m pc next form.kinds inst.leaves) (λ _. Unit {0}) (λ g. AreQuiet g.transfers)
-    (IfSome-any (operands_of m pc next form.kinds inst.leaves) _ (λ _ _. tt)) (λ arguments _.
-    IfSome-map _ (template_transfers m (record { arguments = arguments; pc = pc; next = next }) form.template) AreQuiet (λ g. AreQuiet g.transfers)
-    (template-quiet m (record { arguments = arguments; pc = pc; next = next }) form.template (form-straight m.forms inst.constructor form h e)) (λ ts q. q)))
 
 -- ---- the code
 
@@ -123,10 +52,9 @@ module _ (setting : Setting) (base : ℕ) (code : List ℕ) (h : IsStraightProgr
     later : pc < next → next ≤ top → IsLater pc next
     over : standing setting next ≡ Outside → IsLater pc next
 
-  -- an instruction goes on behind itself, and neither jumps nor annuls
+  -- an instruction goes on behind itself
   record GoesOn (pc : ℕ) (inst : GroundInst) : Type 0 where
     onward : IsLater pc inst.next
-    quiet : AreQuiet inst.transfers
 
   abbrev OnStanding : ℕ → Standing → Type 0
   OnStanding pc Outside = Unit {0}
@@ -156,7 +84,6 @@ module _ (setting : Setting) (base : ℕ) (code : List ℕ) (h : IsStraightProgr
       let next = (pc + t.len) % 2 ^ 32 in
       record {
         onward = behind-on pc t.len g.next some within (subst (HasNext next) e (grounded-next m (inst_of t) pc next));
-        quiet = subst (λ o. IfSome o (λ g. AreQuiet g.transfers)) e (grounded-quiet m h.straight (inst_of t) pc next);
       }
 
   match-on : (pc : ℕ) (bytes : List ℕ) → pc + length bytes ≤ top → (o : Option Taken) → instruction setting.encodings bytes ≡ o → OnStanding pc (match_standing m pc o)
@@ -194,14 +121,10 @@ module _ (setting : Setting) (base : ℕ) (code : List ℕ) (h : IsStraightProgr
   ends-at zero pc near = rw (outside pc (omega (arith, near)))
   ends-at (suc n) pc near = along-ends n pc (ends-at n) near (standing setting pc) refl
 
-  is-plain : IsPlainLine setting (length code + 1) base
-  is-plain =
+  ends : ends_within setting (length code + 1) base ≡ true
+  ends =
       let e : suc (length code) ≡ length code + 1 = omega arith in
-      record {
-        ends = ap (λ n. ends_within setting n base) (sym e) ∙ ends-at (length code) base (omega arith);
-        no_jump = λ pc inst on. (stands-on pc inst on.stands).quiet.no_jump;
-        no_annul = λ pc inst on. (stands-on pc inst on.stands).quiet.no_annul;
-      }
+      ap (λ n. ends_within setting n base) (sym e) ∙ ends-at (length code) base (omega arith)
 
-pub straight-programs-are-plain : StraightProgramsArePlain
-straight-programs-are-plain setting base code h = is-plain setting base code h
+pub straight-programs-end : StraightProgramsEnd
+straight-programs-end setting base code h = ends setting base code h

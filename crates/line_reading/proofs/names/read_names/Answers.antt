@@ -1,17 +1,29 @@
 use Rattle.std.proofs.Common.{sym, ◌∙◌}
 use Rattle.std.proofs.lemmas.Result.{err_from_is_err_and}
-use Rattle.line_reading.proofs.NameReads.{name_end, name_stops, name_falls}
+use Rattle.line_reading.specs.Signs.{comma}
+use Rattle.line_reading.specs.Readings.{any_name}
+use Rattle.line_reading.proofs.Loops.{first_stops, item_falls, loop_end, loop_on, loop_stops}
+use Rattle.line_reading.proofs.NameReads.{name_shorter}
 use Rattle.line_reading.proofs.names.read_names.Goals as goal
+
+pub returns-in_err-first : goal.returns-in_err-first
+returns-in_err-first c =
+    let p = err_from_is_err_and c.from_residual.result c.from_residual.ensures.1 in
+    rw (p.1, p.2) (first_stops comma any_name c.args.cursor.now.rest.now c.in_err-first.field-0.0 c.any_name.new.self.rest.now c.any_name.new.self.rest.now c.in_err-first.ensures)
+
+pub more-preserved : goal.more-preserved
+more-preserved c =
+    loop_on comma any_name c.args.cursor.now.rest.now c.more.names c.push-in-more.new.self c.more.cursor.rest.now c.take_sign.new.self.rest.now c.in_ok-next.next c.any_name-in-more.new.self.rest.now name_shorter c.more.invariant c.take_sign.ensures.rest (sym c.take_sign.ensures.found ∙ c.more-test.true) c.in_ok-next.ensures c.in_ok-push-2.ensures.ok
 
 pub returns-in_err-next : goal.returns-in_err-next
 returns-in_err-next c =
     let p = err_from_is_err_and c.from_residual-in_err-next.result c.from_residual-in_err-next.ensures.1 in
-    rw (p.1, p.2) (name_stops c.args.cursor.now.rest.now c.more.names c.more.cursor.rest.now c.take_sign.new.self.rest.now c.in_err-next.field-0.0 c.any_name-in-more.new.self.rest.now c.any_name-in-more.new.self.rest.now c.more.invariant c.take_sign.ensures.rest (sym c.take_sign.ensures.found ∙ c.more-test.true) c.in_err-next.ensures)
+    rw (p.1, p.2) (loop_stops comma any_name c.args.cursor.now.rest.now c.more.names c.more.cursor.rest.now c.take_sign.new.self.rest.now c.in_err-next.field-0.0 c.any_name-in-more.new.self.rest.now c.any_name-in-more.new.self.rest.now c.more.invariant c.take_sign.ensures.rest (sym c.take_sign.ensures.found ∙ c.more-test.true) c.in_err-next.ensures)
 
 pub more-smaller : goal.more-smaller
 more-smaller c =
-    name_falls c.more.cursor.rest.now c.take_sign.new.self.rest.now c.in_ok-next.next c.any_name-in-more.new.self.rest.now c.take_sign.ensures.rest (sym c.take_sign.ensures.found ∙ c.more-test.true) c.in_ok-next.ensures
+    item_falls comma any_name c.more.cursor.rest.now c.take_sign.new.self.rest.now c.in_ok-next.next c.any_name-in-more.new.self.rest.now name_shorter c.take_sign.ensures.rest (sym c.take_sign.ensures.found ∙ c.more-test.true) c.in_ok-next.ensures
 
 pub returns : goal.returns
 returns c =
-    name_end c.args.cursor.now.rest.now c.more.names c.more.cursor.rest.now c.take_sign.new.self.rest.now c.more.invariant c.take_sign.ensures.rest (sym c.take_sign.ensures.found ∙ c.more-test.false)
+    loop_end comma any_name c.args.cursor.now.rest.now c.more.names c.more.cursor.rest.now c.take_sign.new.self.rest.now c.more.invariant c.take_sign.ensures.rest (sym c.take_sign.ensures.found ∙ c.more-test.false)

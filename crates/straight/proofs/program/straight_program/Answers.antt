@@ -1,8 +1,10 @@
-use Rattle.straight.proofs.Translation.{is_translation, all-ok}
+use Rattle.std.proofs.Common.{subst}
+use Rattle.std.specs.Prelude.{IfSome}
+use Rattle.c_emit.specs.Emitted.{setting_of, TranslatesLines}
+use Rattle.straight.proofs.Translation.{is_translation}
 use Rattle.straight.proofs.program.straight_program.Goals as goal
 
 pub returns : goal.returns
 returns c =
-    all-ok _ _ _ _ c.line_program.result
-    (λ p same spelled addressed. is_translation _ c.args.base c.args.code.now _ p c.requires c.in_ok-segments.ensures c.straight_programs_are_plain.ensures c.one_program.ensures same spelled addressed)
-    c.line_program.ensures.same c.line_program.ensures.spelled c.line_program.ensures.addressed
+    is_translation (setting_of c.args.on.now) c.args.base c.args.code.now c.in_ok-segments.segments c.in-Some.program c.requires c.in_ok-segments.ensures
+    (subst (λ o. IfSome o (TranslatesLines (setting_of c.args.on.now) c.in_ok-segments.segments c.args.base)) c.in-Some.is c.in_ok-program.ensures.translation)

@@ -1,0 +1,79 @@
+//! The stops of instructions that jump or annul.
+ghost use Rattle.std.specs.Prelude.{◌≡◌, ◌++◌, OnOk};
+ghost use Rattle.rtl_core.specs.SoundTerms.{is_annul, is_jump};
+ghost use Rattle.c_emit.specs.Line.{couple_c, couples_c, does};
+
+use c_lang::{CExpr, Stmt, Var};
+use rtl_core::{Act, Transfer};
+use sqlite_items::Items;
+use std::alloc::{AllocError, Global};
+
+/// The stop at an instruction that jumps or annuls.
+const COUPLE: u64 = 11;
+/// The temporaries that tell that a jump was done, and an annul.
+const JUMPED: u16 = 1;
+
+const ANNULLED: u16 = 2;
+
+/// Pushes the stops of an instruction at `pc` for where it jumped or annulled.
+pub(crate) fn push_stops(
+    alloc: Global,
+    out: &mut Items<Stmt>,
+    pc: u32,
+    transfers: &[Transfer],
+) -> Result<(), AllocError>
+    ensures { OnOk result (out.new ≡ out.old ++ couples_c pc transfers.now) }
+{
+    push_couple(alloc, out, pc, has_jump(transfers), JUMPED)?;
+    push_couple(alloc, out, pc, has_annul(transfers), ANNULLED)
+}
+
+/// Pushes the stop for where a flag is set, of an instruction that can set it.
+fn push_couple(
+    alloc: Global,
+    out: &mut Items<Stmt>,
+    pc: u32,
+    can: bool,
+    told: u16,
+) -> Result<(), AllocError>
+    ensures { OnOk result (out.new ≡ out.old ++ couple_c pc can told) }
+{
+    if !can {
+        return Ok(());
+    }
+    let mut stop = Items::new(alloc);
+    stop.push(Stmt::Stop(COUPLE, CExpr::Num(u64::from(pc))))?;
+    out.push(Stmt::If(CExpr::Of(Var::Temp(told)), stop))
+}
+
+/// Whether some transfer is a jump.
+fn has_jump(transfers: &[Transfer]) -> bool
+    ensures { result ≡ does is_jump transfers.now }
+{
+    transfers.iter().any(|transfer| jumps(&transfer.act))
+}
+
+/// Whether some transfer is an annul.
+fn has_annul(transfers: &[Transfer]) -> bool
+    ensures { result ≡ does is_annul transfers.now }
+{
+    transfers.iter().any(|transfer| annuls(&transfer.act))
+}
+
+fn jumps(act: &Act) -> bool
+    ensures { result ≡ is_jump act.now }
+{
+    match act {
+        Act::Jump(_) => true,
+        _ => false,
+    }
+}
+
+fn annuls(act: &Act) -> bool
+    ensures { result ≡ is_annul act.now }
+{
+    match act {
+        Act::Annul => true,
+        _ => false,
+    }
+}
