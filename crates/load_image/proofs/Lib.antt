@@ -1,0 +1,5 @@
+pub mod Overlaps
+pub mod Lookups
+pub mod FrozenLookups
+pub mod Builds
+pub mod Theorems

@@ -1,0 +1,4 @@
+pub mod Areas
+pub mod FrozenBytes
+pub mod Mapped
+pub mod Made
