@@ -1,0 +1,4 @@
+pub mod LineReads
+pub mod LineSound
+pub mod Values
+pub mod Puts
