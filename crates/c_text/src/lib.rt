@@ -12,6 +12,7 @@ mod statements;
 mod words;
 mod writer;
 
+pub use pieces::hex_of;
 pub use writer::write_c;
 
 #[cfg(test)]

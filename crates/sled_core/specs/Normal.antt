@@ -1,4 +1,4 @@
--- The normal form of a description of instructions, or its first fault.
+-- The normal form of a description of encodings, or its first fault.
 use Rattle.std.specs.Prelude.{ℕ, List, [], ◌∷◌, ◌++◌, Option, Some, None, Result, Ok, Err, fold, unwrap_or}
 use Rattle.std.specs.Option.{option_or}
 use Rattle.rtl_core.specs.declared.encodings.Encodings.{Encodings}
