@@ -1,31 +1,14 @@
-//! Descriptions of instructions: the checks of their lines, and the normal form of a description.
+//! Descriptions of encodings, checked: their normal form, which is sound, or the first fault.
 #![tactic(auto)]
 
-mod counting;
-mod expanding;
-mod facts;
-mod fault;
-mod known;
-mod lines;
-mod lists;
-mod meaning;
-mod names;
-mod normal;
-mod operands;
-mod ranges;
-mod sizes;
-mod starts;
-mod taken;
-mod tokens;
-mod unknown;
+ghost use Rattle.std.specs.Prelude.{◌≡◌, ◌≢◌, All, Ok, Err, IfOk, MatchResult};
+ghost use Rattle.rtl_core.specs.SoundEncodings.{IsSoundEncodings};
+ghost use Rattle.sled_syntax.specs.Lines.{IsSledLine};
+ghost use Rattle.sled_rules.specs.Normal.{normal};
 
-ghost use Rattle.std.specs.Prelude.{◌≡◌, ◌≢◌, Ok, Err, MatchResult};
-ghost use Rattle.sled_core.specs.LineValues.{AreLines};
-ghost use Rattle.sled_core.specs.Normal.{normal};
-
-pub use fault::SledFault;
-use normal::normal_form;
 use rtl_core::Encodings;
+pub use sled_rules::SledFault;
+use sled_rules::normal_form;
 use sled_syntax::SledLine;
 use std::alloc::Global;
 
@@ -36,8 +19,12 @@ use std::alloc::Global;
 /// Else the first fault: that of the first line that has one, and on it the one that stands first in `SledFault`.
 /// `NoMemory` may come in place of any answer.
 pub fn normal_sled(alloc: Global, lines: &[SledLine]) -> Result<Encodings, SledFault>
-    requires { AreLines lines.now }
-    ensures { MatchResult result (λ enc. normal lines.now ≡ Ok enc) (λ f. f ≢ SledFault.NoMemory → normal lines.now ≡ Err f) }
+    requires { All IsSledLine lines.now }
+    ensures exact { MatchResult result (λ enc. normal lines.now ≡ Ok enc) (λ f. f ≢ SledFault.NoMemory → normal lines.now ≡ Err f) }
+    ensures sound { IfOk result IsSoundEncodings }
 {
     normal_form(alloc, lines)
 }
+
+#[cfg(test)]
+mod tests;

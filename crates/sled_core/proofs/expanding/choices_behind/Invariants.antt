@@ -1,6 +1,0 @@
-use Rattle.std.proofs.Common.{◌≡◌, ◌++◌, map, take}
-use Rattle.std.specs.List.{flat_map}
-use Rattle.sled_core.proofs.expanding.choices_behind.Given as goal
-
-abbrev pub invariant-loop-left : goal.invariant-loop-left
-invariant-loop-left l = l.all ≡ flat_map (λ x. map (λ y. x ++ y) l.ys) (take l.left-index l.xs)

@@ -1,6 +1,0 @@
-use Rattle.std.proofs.Common.{◌≡◌, ◌++◌, map, take}
-use Rattle.sled_core.specs.Alternatives.{onto_first}
-use Rattle.sled_core.proofs.expanding.push_onto.Given as goal
-
-abbrev pub invariant-loop-right : goal.invariant-loop-right
-invariant-loop-right l = l.out ≡ l.initial.out ++ map (onto_first l.left) (take l.right-index l.ys)

@@ -1,8 +1,0 @@
-use Rattle.std.proofs.Common.{◌≡◌, take}
-use Rattle.std.specs.List.{filter_map}
-use Rattle.sled_core.specs.Meanings.{named}
-use Rattle.sled_core.specs.Operands.{kind_of}
-use Rattle.sled_core.proofs.operands.kinds_of.Given as goal
-
-abbrev pub invariant-loop-op : goal.invariant-loop-op
-invariant-loop-op l = l.kinds ≡ filter_map (λ op. kind_of (named l.names op)) (take l.op-index l.ops)

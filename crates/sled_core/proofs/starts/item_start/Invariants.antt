@@ -1,7 +1,0 @@
-use Rattle.std.proofs.Common.{◌≡◌, take, fold}
-use Rattle.sled_core.specs.declared.meaning.Start.TheVariants.{Nothing}
-use Rattle.sled_core.specs.Starts.{join, part_start}
-use Rattle.sled_core.proofs.starts.item_start.Given as goal
-
-abbrev pub invariant-loop-part : goal.invariant-loop-part
-invariant-loop-part l = l.start ≡ fold (λ s part. join s (part_start l.names l.facts part)) Nothing (take l.part-index l.part-items)

@@ -1,0 +1,11 @@
+pub mod TableLemmas
+pub mod TakenLaws
+pub mod BrokenLaws
+pub mod LineLaws
+pub mod CountLaws
+pub mod CountedLaws
+pub mod TextSteps
+pub mod RestLaws
+pub mod GiveLaws
+pub mod SizeLaws
+pub mod ChoiceLaws

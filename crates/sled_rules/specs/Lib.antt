@@ -1,0 +1,10 @@
+pub mod Normal
+pub mod Faults
+pub mod Known
+pub mod Alternatives
+pub mod Operands
+pub mod Starts
+pub mod Sizes
+pub mod Meanings
+pub mod Ranges
+pub mod Counts
