@@ -1,0 +1,15 @@
+pub mod Shown
+pub mod State
+pub mod Kept
+pub mod Numbers
+pub mod OwnNames
+pub mod Heads
+pub mod Fresh
+pub mod Limits
+pub mod TypeWidths
+pub mod LineFaults
+pub mod Functions
+pub mod TypeTables
+pub mod Forms
+pub mod MoreTemplates
+pub mod Fine

@@ -1,0 +1,121 @@
+//! Whether the names of a line are known.
+ghost use Rattle.std.specs.Prelude.{◌≡◌, take};
+ghost use Rattle.std.specs.List.{list_all};
+ghost use Rattle.ssl_rules.specs.Known.{is_known_part};
+ghost use Rattle.ssl_rules.specs.Checks.{is_known, is_known_kind};
+ghost use Rattle.ssl_core.specs.State.{shown};
+ghost use Rattle.ssl_core.specs.OwnNames.{FindSame, constructor_of, own_of};
+ghost use Rattle.ssl_core.specs.Heads.{is_constructor_at, is_head};
+
+use crate::constructors::{constructors_of, kinds_of, type_of};
+use crate::given::Given;
+use crate::stands::are_made;
+use rtl_core::{Encodings, OperandKind};
+use ssl_checks::{are_known_transfers, is_known_expr, is_known_part};
+use ssl_rules::{LineNames, NameTable, Own, Tables};
+use ssl_syntax::{SslBody, ViewPart};
+
+/// Whether every constructor of an operand's type has a template.
+fn is_known_kind(enc: &Encodings, given: &Given, kind: OperandKind) -> bool
+    ensures { result ≡ is_known_kind enc.now (shown given.now) kind }
+{
+    match kind {
+        OperandKind::Field(_) => true,
+        OperandKind::Typed(kind) => are_made(given, constructors_of(enc, usize::from(kind))),
+    }
+}
+
+/// The same of each of some operands.
+fn are_known_kinds(enc: &Encodings, given: &Given, kinds: &[OperandKind]) -> bool
+    ensures { result ≡ list_all (is_known_kind enc.now (shown given.now)) kinds.now }
+{
+    for kind in kinds {
+        if !is_known_kind(enc, given, *kind) {
+            return false;
+        }
+    }
+    true
+}
+
+/// The first operands, at most so many.
+fn first_kinds(kinds: &[OperandKind], count: usize) -> &[OperandKind]
+    ensures { result.now ≡ take count kinds.now }
+{
+    let (first, _) = kinds.split_at(count.min(kinds.len()));
+    first
+}
+
+/// Whether there is a constructor, and of an instruction or not.
+fn is_constructor(enc: &Encodings, constructor: Option<u16>, instruction: bool) -> bool
+    ensures { result ≡ is_constructor_at enc.now instruction constructor }
+{
+    match constructor {
+        None => false,
+        Some(constructor) => (type_of(enc, constructor) == 0) == instruction,
+    }
+}
+
+/// Whether the constructor of a line is known, and the operands that are listed.
+fn is_head(
+    enc: &Encodings,
+    given: &Given,
+    constructor: Option<u16>,
+    instruction: bool,
+    count: usize,
+) -> bool
+    ensures { result ≡ is_head enc.now (shown given.now) instruction constructor count }
+{
+    is_constructor(enc, constructor, instruction)
+        && are_known_kinds(
+            enc,
+            given,
+            first_kinds(kinds_of(enc, constructor.unwrap_or(0)), count),
+        )
+}
+
+/// Whether the cells of all parts are known.
+fn are_known_parts(tables: &Tables, parts: &[ViewPart]) -> bool
+    ensures { result ≡ list_all (is_known_part tables.now) parts.now }
+{
+    for part in parts {
+        if !is_known_part(tables, part) {
+            return false;
+        }
+    }
+    true
+}
+
+/// Whether the names of a line are known.
+pub fn is_known(
+    enc: &Encodings,
+    given: &Given,
+    constructor: Option<u16>,
+    own: &NameTable<Own>,
+    body: &SslBody,
+) -> bool
+    requires constructor { constructor ≡ constructor_of enc.now body.now }
+    requires own { FindSame own.now (own_of enc.now (shown given.now) body.now) }
+    ensures { result ≡ is_known enc.now (shown given.now) body.now }
+{
+    let tables = &given.tables;
+    let names = LineNames { tables, own };
+    match body {
+        SslBody::View { parts, .. } => are_known_parts(tables, parts.as_slice()),
+        SslBody::Zero { cell } => tables.is_cell(cell),
+        SslBody::Windows {
+            out_first,
+            local_first,
+            in_first,
+            ..
+        } => tables.is_cell(out_first) && tables.is_cell(local_first) && tables.is_cell(in_first),
+        SslBody::Function { body, .. } => is_known_expr(&names, body),
+        SslBody::Operand { ops, body, .. } => {
+            is_head(enc, given, constructor, false, ops.len()) && is_known_expr(&names, body)
+        },
+        SslBody::Instruction { ops, transfers, .. } => {
+            is_head(enc, given, constructor, true, ops.len())
+                && are_known_transfers(&names, given.windows.is_some(), transfers.as_slice())
+        },
+        _ => true,
+    }
+}

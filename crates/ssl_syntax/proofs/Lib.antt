@@ -1,0 +1,15 @@
+pub mod Ends
+pub mod ExprLaws
+pub mod InductExpr
+pub mod WordLaws
+pub mod ExprReads
+pub mod ExprSound
+pub mod ExprLoops
+pub mod Whole
+pub mod TransferReads
+pub mod TransferSound
+pub mod LineReads
+pub mod LineSound
+pub mod ListLoops
+pub mod LineLaws
+pub mod Puts

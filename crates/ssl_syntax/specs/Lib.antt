@@ -1,0 +1,10 @@
+pub mod Operators
+pub mod Words
+pub mod Expressions
+pub mod ExprReaders
+pub mod Spells
+pub mod Transfers
+pub mod TransferReaders
+pub mod Lines
+pub mod LineReaders
+pub mod Texts
