@@ -1,4 +1,4 @@
 pub mod Files
-pub mod LinesOf
 pub mod Pieces
 pub mod Longer
+pub mod BuiltLaws

@@ -6,12 +6,12 @@ use Rattle.edge_io.specs.Files.{Files, Names, IsFile, IsLonger}
 use Rattle.edge_io.specs.Output.{Output}
 use Rattle.uqbt_top.specs.Message.{limit_of}
 use Rattle.uqbt_top.specs.Wanted.{Wanted, AreFiles}
-use Rattle.uqbt_top.specs.Command.{files_of}
-use Rattle.uqbt_top.specs.Causes.{CommandCaused, Caused}
+use Rattle.uqbt_top.specs.Command.{Command, command_of, files_of}
+use Rattle.uqbt_top.specs.Causes.{AllRead, CommandCaused, Caused}
 use Rattle.uqbt_top.specs.Longest.{long_or, first_long, LongIsExact}
 use Rattle.uqbt_top.specs.declared.outcome.FileName.{FileName}
 use Rattle.uqbt_top.specs.declared.outcome.Outcome.{Outcome}
-use Rattle.uqbt_top.specs.declared.outcome.Outcome.TheVariants.{Done, Usage, FileTooLong, NoTemplate, NoMemory, WriteFault, ReadFault}
+use Rattle.uqbt_top.specs.declared.outcome.Outcome.TheVariants.{Done, Usage, Description, Executable, FileTooLong, NoMemory, WriteFault, ReadFault}
 
 -- a file that is there and within its limit is passed
 passed_by : (files : Files) (w : Wanted) (bytes : List ℕ) (rest : Option FileName) → IsFile (Some files) w.name (limit_of w.file) bytes
@@ -56,37 +56,41 @@ grows names name same = omega (arith, ap length same, length-append names (name 
 abbrev Told : Outcome → FileName → Type 0
 Told e file = (e ≡ FileTooLong file) ⊎ (e ≡ NoMemory)
 
-by_answer : (files : Files) (all : List Wanted) (old new : Names) (out out' : Output) (e : Outcome) (file : FileName)
-    → CommandCaused (Some files) all old new out out' e → first_long files all ≡ Some file → new.failed ≡ old.failed → Told e file
-by_answer files all old new out out' Done file did is kept =
-    absurd (none_is_some file (sym (none_long files all did.bytes did.were_read) ∙ is))
-by_answer files all old new out out' Usage file did is kept = absurd did
-by_answer files all old new out out' (FileTooLong f) file did is kept =
+by_reading : (files : Files) (command : Command) (old new : Names) (out out' : Output) (e : Outcome) (file : FileName)
+    → AllRead (Some files) command old new out out' e → first_long files (files_of command) ≡ Some file → Told e file
+by_reading files command old new out out' e file did is =
+    absurd (none_is_some file (sym (none_long files (files_of command) did.bytes did.were_read) ∙ is))
+
+by_answer : (files : Files) (command : Command) (old new : Names) (out out' : Output) (e : Outcome) (file : FileName)
+    → CommandCaused (Some files) command old new out out' e → first_long files (files_of command) ≡ Some file → new.failed ≡ old.failed → Told e file
+by_answer files command old new out out' Done file did is kept = by_reading files command old new out out' Done file did is
+by_answer files command old new out out' Usage file did is kept = absurd did
+by_answer files command old new out out' (FileTooLong f) file did is kept =
+    let all = files_of command in
     let due = did.due in
     let found : first_long files all ≡ Some did.this.file =
     ap (first_long files) due.whole ∙ first_behind files due.before due.texts did.this due.behind due.were_read did.did.1.longer in
     inl (ap FileTooLong (did.did.0 ∙ same_file did.this.file file (sym found ∙ is)))
-by_answer files all old new out out' (NoTemplate f line) file did is kept =
-    absurd (none_is_some file (sym (none_long files all did.bytes did.were_read) ∙ is))
-by_answer files all old new out out' NoMemory file did is kept = inr refl
-by_answer files all old new out out' WriteFault file did is kept =
-    absurd (none_is_some file (sym (none_long files all did.bytes did.were_read) ∙ is))
-by_answer files all old new out out' ReadFault file did is kept =
+by_answer files command old new out out' (Description f fault) file did is kept = by_reading files command old new out out' (Description f fault) file did is
+by_answer files command old new out out' (Executable fault) file did is kept = by_reading files command old new out out' (Executable fault) file did is
+by_answer files command old new out out' NoMemory file did is kept = inr refl
+by_answer files command old new out out' WriteFault file did is kept = by_reading files command old new out out' WriteFault file did is
+by_answer files command old new out out' ReadFault file did is kept =
     absurd (grows old.failed did.this.name (sym did.did.failed ∙ kept))
 
 if_some : {A : Type 0} (o : Option A) (P : A → Type 0) → ((x : A) → o ≡ Some x → P x) → IfSome o P
 if_some None P each = tt
 if_some (Some x) P each = each x refl
 
-by_form : (told : Option Files) (form : Option (List Wanted)) (old new : Names) (out out' : Output) (e : Outcome)
-    → MatchOption form ((e ≡ Usage) × (new ≡ old)) (λ all. CommandCaused told all old new out out' e)
-    → IfSome told (λ files. IfSome form (λ all. IfSome (first_long files all) (λ file. new.failed ≡ old.failed → Told e file)))
+by_form : (told : Option Files) (form : Option Command) (old new : Names) (out out' : Output) (e : Outcome)
+    → MatchOption form ((e ≡ Usage) × (new ≡ old)) (λ command. CommandCaused told command old new out out' e)
+    → IfSome told (λ files. IfSome form (λ command. IfSome (first_long files (files_of command)) (λ file. new.failed ≡ old.failed → Told e file)))
 by_form None form old new out out' e did = tt
 by_form (Some files) None old new out out' e did = tt
-by_form (Some files) (Some all) old new out out' e did =
-    if_some (first_long files all) _ (λ file is. by_answer files all old new out out' e file did is)
+by_form (Some files) (Some command) old new out out' e did =
+    if_some (first_long files (files_of command)) _ (λ file is. by_answer files command old new out out' e file did is)
 
 -- the causes of the answers say it
 pub exactly_long : (told : Option Files) (words : List (List ℕ)) (old new : Names) (out out' : Output) (e : Outcome)
     → Caused told words old new out out' e → LongIsExact told words old new e
-exactly_long told words old new out out' e did = by_form told (files_of words) old new out out' e did
+exactly_long told words old new out out' e did = by_form told (command_of words) old new out out' e did

@@ -1,39 +1,128 @@
--- What is built of the files of `translate`, and what isn't.
-use Rattle.std.specs.Prelude.{◌≡◌, ℕ, List, [], ◌∷◌, Option, None, Some}
+-- What is built of the files of `translate`, and why nothing is.
+use Rattle.std.specs.Prelude.{◌≡◌, ℕ, ◌≤◌, ◌-◌, ◌^◌, false, List, [], ◌∷◌, length, map, Ok, Err, Some, All}
+use Rattle.rtl_core.specs.FirstMemory.{Part}
+use Rattle.points.specs.Machine.{Setting}
+use Rattle.decode.specs.At.{AreShort}
+use Rattle.elf32.specs.declared.elf.Elf.{Elf}
+use Rattle.elf32.specs.Reading.{elf_of}
+use Rattle.load_image.specs.declared.image.Image.{Image}
+use Rattle.load_image.specs.declared.fault.ImageFault.TheVariants as image
+use Rattle.load_image.specs.Areas.{overlap_fault}
+use Rattle.load_image.specs.Made.{image_of}
+use Rattle.load_image.specs.Mapped.{segment_part}
+use Rattle.c_lang.specs.declared.tree.Program.{Program}
+use Rattle.c_emit.specs.Emitted.{IsTranslation}
+use Rattle.c_emit.specs.Line.{ends_within}
+use Rattle.descriptions.specs.declared.described.Described.{Described}
+use Rattle.descriptions.specs.declared.fault.DescFault.{DescFault}
+use Rattle.descriptions.specs.Accepted.{Describe, IsSledFault, AreNoInstructions, AreNoConventions}
 use Rattle.uqbt_top.specs.declared.outcome.FileName.{FileName}
 use Rattle.uqbt_top.specs.declared.outcome.FileName.TheVariants.{Sled, Ssl, Conv, Exe, Prog}
-use Rattle.uqbt_top.specs.Lines.{lines_of, first_unlike}
-use Rattle.uqbt_top.specs.SmallTexts.{sled_lines, ssl_lines, conv_lines}
-use Rattle.uqbt_top.specs.Executable.{IsExecutable}
+use Rattle.uqbt_top.specs.declared.outcome.ExeFault.{ExeFault}
+use Rattle.uqbt_top.specs.declared.outcome.ExeFault.TheVariants.{Elf as InElf, AreaOverlap, TooLarge}
+use Rattle.uqbt_top.specs.declared.outcome.Outcome.{Outcome}
+use Rattle.uqbt_top.specs.declared.outcome.Outcome.TheVariants.{Done, Usage, Description, Executable, FileTooLong, NoMemory, WriteFault, ReadFault}
 
--- the bytes of the four files
-pub record Texts : Type 0 where
+-- ---- descriptions
+
+-- the three descriptions
+pub record Descriptions : Type 0 where
   pub sled : List ℕ
   pub ssl : List ℕ
   pub conv : List ℕ
-  pub exe : List ℕ
 
--- the same in the order of the words
-abbrev pub in_order : Texts → List (List ℕ)
-in_order t = t.sled ∷ t.ssl ∷ t.conv ∷ t.exe ∷ []
+-- they describe this machine
+abbrev pub AreOf : Descriptions → Described → Type 0
+AreOf t d = Describe t.sled t.ssl t.conv d
 
--- the first line of a text that isn't the wanted one
-abbrev pub unlike : List ℕ → List (List ℕ) → Option ℕ
-unlike text wants = first_unlike 1 (lines_of text) wants
+-- the first of them with a fault, and its first fault
+abbrev pub IsFirstFault : Descriptions → FileName → DescFault → Type 0
+IsFirstFault t Sled fault = IsSledFault t.sled fault
+IsFirstFault t Ssl fault = AreNoInstructions t.sled t.ssl fault
+IsFirstFault t Conv fault = AreNoConventions t.sled t.ssl t.conv fault
+IsFirstFault t _ fault = ⊥
 
--- the texts are those of the small machine, and the executable holds this code
-pub record IsBuilt (t : Texts) (code : List ℕ) : Type 0 where
-  pub sled : unlike t.sled sled_lines ≡ None
-  pub ssl : unlike t.ssl ssl_lines ≡ None
-  pub conv : unlike t.conv conv_lines ≡ None
-  pub exe : IsExecutable t.exe code
+-- ---- executables
 
--- the first line that isn't built, in the order of the files; an executable of another form counts as its line 0
-abbrev pub IsUnbuilt : Texts → FileName → ℕ → Type 0
-IsUnbuilt t Sled line = unlike t.sled sled_lines ≡ Some line
-IsUnbuilt t Ssl line = (unlike t.sled sled_lines ≡ None) × (unlike t.ssl ssl_lines ≡ Some line)
-IsUnbuilt t Conv line = (unlike t.sled sled_lines ≡ None) × (unlike t.ssl ssl_lines ≡ None)
-    × (unlike t.conv conv_lines ≡ Some line)
-IsUnbuilt t Exe line = (unlike t.sled sled_lines ≡ None) × (unlike t.ssl ssl_lines ≡ None)
-    × (unlike t.conv conv_lines ≡ None) × ((code : List ℕ) → IsExecutable t.exe code → ⊥) × (line ≡ 0)
-IsUnbuilt t Prog line = ⊥
+-- the file is an executable of the machine, and this is its image
+pub record IsImageOf (d : Described) (exe : List ℕ) (i : Image) : Type 0 where
+  pub elf : Elf
+  pub read : elf_of exe d.conv d.named.machine.order ≡ Ok elf
+  pub made : i ≡ image_of elf d.conv
+
+-- the machine with an image
+abbrev pub setting_with : Described → Image → Setting
+setting_with d i = record { encodings = d.encodings; machine = d.named.machine; conv = d.conv; frozen = i.frozen }
+
+-- the segments of an image as parts of its first memory
+abbrev pub parts_of : Image → List Part
+parts_of i = map segment_part i.segments
+
+-- the most points that are built, and the number that is told where there are more
+abbrev pub most_points : ℕ
+most_points = 131072
+
+-- its first overlap with the stack or the heap is with the segment of this header
+pub record Overlaps (d : Described) (exe : List ℕ) (index : ℕ) : Type 0 where
+  pub elf : Elf
+  pub read : elf_of exe d.conv d.named.machine.order ≡ Ok elf
+  pub first : overlap_fault d.conv elf.segments ≡ Some (image.AreaOverlap index)
+
+-- the entry's procedure has more points than are built
+pub record IsTooLarge (d : Described) (exe : List ℕ) (points : ℕ) : Type 0 where
+  pub image : Image
+  pub loaded : IsImageOf d exe image
+  pub long : ends_within (setting_with d image) most_points image.entry ≡ false
+  pub told : points ≡ 131073
+
+-- the first fault of an executable
+abbrev pub IsExeFault : Described → List ℕ → ExeFault → Type 0
+IsExeFault d exe (InElf fault) = elf_of exe d.conv d.named.machine.order ≡ Err fault
+IsExeFault d exe (AreaOverlap index) = Overlaps d exe index
+IsExeFault d exe (TooLarge points) = IsTooLarge d exe points
+
+-- the descriptions describe a machine, and the executable has this first fault
+pub record IsUnusable (t : Descriptions) (exe : List ℕ) (fault : ExeFault) : Type 0 where
+  pub described : Described
+  pub of : AreOf t described
+  pub first : IsExeFault described exe fault
+
+-- the parts of an image are short enough for what is built of them
+pub record IsReady (i : Image) : Type 0 where
+  pub frozen : AreShort i.frozen
+  pub segments : All (λ s. length s.bytes ≤ 2 ^ 32 - 1) i.segments
+
+-- ---- translations
+
+-- p is a translation of the executable on the described machine: it is the same, and no other program has its text
+pub record Translates (t : Descriptions) (exe : List ℕ) (p : Program) : Type 0 where
+  pub described : Described
+  pub of : AreOf t described
+  pub image : Image
+  pub loaded : IsImageOf described exe image
+  pub translation : IsTranslation (setting_with described image) (parts_of image) image.entry p
+
+-- why descriptions are refused, by the answer
+abbrev pub AreRefused : Descriptions → Outcome → Type 0
+AreRefused t (Description file fault) = IsFirstFault t file fault
+AreRefused t NoMemory = Unit {0}
+AreRefused t _ = ⊥
+
+-- why an executable is refused, by the answer
+abbrev pub IsRefusedExe : (ExeFault → Type 0) → Outcome → Type 0
+IsRefusedExe first (Executable fault) = first fault
+IsRefusedExe first NoMemory = Unit {0}
+IsRefusedExe first _ = ⊥
+
+-- why nothing is translated, by the answer
+abbrev pub IsRefused : Descriptions → List ℕ → Outcome → Type 0
+IsRefused t exe (Description file fault) = IsFirstFault t file fault
+IsRefused t exe (Executable fault) = IsUnusable t exe fault
+IsRefused t exe NoMemory = Unit {0}
+IsRefused t exe _ = ⊥
+
+-- why an image has no program, by the answer
+abbrev pub IsLong : Described → Image → Outcome → Type 0
+IsLong d i (Executable (TooLarge points)) = (points ≡ 131073) × (ends_within (setting_with d i) most_points i.entry ≡ false)
+IsLong d i NoMemory = Unit {0}
+IsLong d i _ = ⊥

@@ -4,14 +4,28 @@ use Rattle.std.specs.Str.{bytes_eq}
 use Rattle.uqbt_top.specs.Wanted.{Wanted}
 use Rattle.uqbt_top.specs.declared.outcome.FileName.TheVariants.{Sled, Ssl, Conv, Exe}
 
--- the files of `translate`, in the order of the words
+-- a command and its file words
+pub data Command : Type 0 where
+  Translate : (sled ssl conv exe : List ℕ) → Command
+  Check : (sled ssl conv : List ℕ) → Command
+
+-- what words ask for: `translate SLED SSL CONV EXE`, or `check SLED SSL CONV`
+abbrev pub command_of : List (List ℕ) → Option Command
+command_of (word ∷ sled ∷ ssl ∷ conv ∷ exe ∷ []) = if bytes_eq word (codes "translate") then Some (Translate sled ssl conv exe) else None
+command_of (word ∷ sled ∷ ssl ∷ conv ∷ []) = if bytes_eq word (codes "check") then Some (Check sled ssl conv) else None
+command_of _ = None
+
+-- the three descriptions
+abbrev pub three_files : List ℕ → List ℕ → List ℕ → List Wanted
+three_files sled ssl conv = record { file = Sled; name = sled } ∷ record { file = Ssl; name = ssl } ∷ record { file = Conv; name = conv } ∷ []
+
+-- the descriptions and the executable
 abbrev pub four_files : List ℕ → List ℕ → List ℕ → List ℕ → List Wanted
 four_files sled ssl conv exe =
     record { file = Sled; name = sled } ∷ record { file = Ssl; name = ssl }
     ∷ record { file = Conv; name = conv } ∷ record { file = Exe; name = exe } ∷ []
 
--- the files that words ask for, which have the form `translate SLED SSL CONV EXE`
-abbrev pub files_of : List (List ℕ) → Option (List Wanted)
-files_of (command ∷ sled ∷ ssl ∷ conv ∷ exe ∷ []) =
-    if bytes_eq command (codes "translate") then Some (four_files sled ssl conv exe) else None
-files_of _ = None
+-- the files of a command, in the order of the words
+abbrev pub files_of : Command → List Wanted
+files_of (Translate sled ssl conv exe) = four_files sled ssl conv exe
+files_of (Check sled ssl conv) = three_files sled ssl conv

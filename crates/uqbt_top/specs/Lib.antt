@@ -1,9 +1,7 @@
+pub mod Told
 pub mod Message
 pub mod Wanted
 pub mod Command
-pub mod Lines
-pub mod SmallTexts
-pub mod Executable
 pub mod Built
 pub mod Causes
 pub mod Longest

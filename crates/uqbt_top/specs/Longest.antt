@@ -3,7 +3,7 @@ use Rattle.std.specs.Prelude.{◌≡◌, ◌⊎◌, ℕ, List, [], ◌∷◌, le
 use Rattle.edge_io.specs.Files.{Files, Names}
 use Rattle.uqbt_top.specs.Message.{limit_of}
 use Rattle.uqbt_top.specs.Wanted.{Wanted}
-use Rattle.uqbt_top.specs.Command.{files_of}
+use Rattle.uqbt_top.specs.Command.{command_of, files_of}
 use Rattle.uqbt_top.specs.declared.outcome.FileName.{FileName}
 use Rattle.uqbt_top.specs.declared.outcome.Outcome.{Outcome}
 use Rattle.uqbt_top.specs.declared.outcome.Outcome.TheVariants.{NoMemory, FileTooLong}
@@ -20,5 +20,5 @@ first_long files (w ∷ ws) = long_or w.file (limit_of w.file) (first_long files
 
 -- where the files are told and no fetch failed, the first file over its limit is told, unless memory ran out
 abbrev pub LongIsExact : Option Files → List (List ℕ) → Names → Names → Outcome → Type 0
-LongIsExact told words old new outcome = IfSome told (λ files. IfSome (files_of words) (λ all. IfSome (first_long files all) (λ file.
+LongIsExact told words old new outcome = IfSome told (λ files. IfSome (command_of words) (λ command. IfSome (first_long files (files_of command)) (λ file.
     new.failed ≡ old.failed → (outcome ≡ FileTooLong file) ⊎ (outcome ≡ NoMemory))))

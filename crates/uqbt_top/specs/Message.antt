@@ -1,16 +1,18 @@
 -- The number and the line of each answer, and the limits of the files.
-use Rattle.std.specs.Prelude.{ℕ, List, [], ◌∷◌, ◌++◌, codes, decimal}
+use Rattle.std.specs.Prelude.{ℕ, List, [], ◌∷◌, ◌++◌, codes}
 use Rattle.uqbt_top.specs.declared.outcome.FileName.{FileName}
 use Rattle.uqbt_top.specs.declared.outcome.FileName.TheVariants.{Sled, Ssl, Conv, Exe, Prog}
 use Rattle.uqbt_top.specs.declared.outcome.Outcome.{Outcome}
-use Rattle.uqbt_top.specs.declared.outcome.Outcome.TheVariants.{Done, Usage, FileTooLong, NoTemplate, NoMemory, WriteFault, ReadFault}
+use Rattle.uqbt_top.specs.declared.outcome.Outcome.TheVariants.{Done, Usage, Description, Executable, FileTooLong, NoMemory, WriteFault, ReadFault}
+use Rattle.uqbt_top.specs.Told.{desc_words, exe_words}
 
 -- the status that the program ends with
 abbrev pub status_of : Outcome → ℕ
 status_of Done = 0
 status_of Usage = 64
+status_of (Description file fault) = 65
+status_of (Executable fault) = 67
 status_of (FileTooLong file) = 68
-status_of (NoTemplate file line) = 69
 status_of NoMemory = 71
 status_of WriteFault = 73
 status_of ReadFault = 74
@@ -27,8 +29,9 @@ file_word Prog = codes "prog"
 abbrev pub said_of : Outcome → List ℕ
 said_of Done = codes "done"
 said_of Usage = codes "usage"
+said_of (Description file fault) = codes "description " ++ file_word file ++ codes " " ++ desc_words fault
+said_of (Executable fault) = codes "executable " ++ exe_words fault
 said_of (FileTooLong file) = codes "file-too-long " ++ file_word file
-said_of (NoTemplate file line) = codes "no-template " ++ file_word file ++ codes " " ++ decimal line
 said_of NoMemory = codes "no-memory"
 said_of WriteFault = codes "write-fault"
 said_of ReadFault = codes "read-fault"

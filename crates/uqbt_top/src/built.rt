@@ -1,52 +1,125 @@
-// What is built of the files of `translate`.
-ghost use Rattle.std.specs.Prelude.{IfOk, IfErr};
-ghost use Rattle.uqbt_top.specs.Built.{IsBuilt, IsUnbuilt};
+//! What is built of the files.
+ghost use Rattle.std.specs.Prelude.{◌≡◌, ◌<◌, ◌-◌, ◌^◌, length, map, IfOk, IfErr};
+ghost use Rattle.rtl_core.specs.SoundConv.{AreSoundTogether};
+ghost use Rattle.c_emit.specs.Emitted.{IsTranslation};
+ghost use Rattle.c_emit.specs.Line.{segment_of};
+ghost use Rattle.load_image.specs.Mapped.{segment_part};
+ghost use Rattle.uqbt_top.specs.Built.{AreOf, AreRefused, IsExeFault, IsImageOf, IsLong, IsReady, IsRefused, IsRefusedExe, Translates, parts_of, setting_with};
 
-use crate::executable::exe_code;
-use crate::lines::first_unlike;
-use crate::reading::Text;
-use crate::{FileName, small_texts};
+use crate::{ExeFault, FileName, Outcome};
+use c_emit::line_program;
+use c_lang::{CSeg, Program};
+use decode::Bundle;
+use descriptions::{Described, Undescribed, read_descriptions};
+use elf32::{ElfFault, Segment, read_elf};
+use load_image::{Image, ImageFault, make_image};
+use sled_match::Matcher;
+use sqlite_items::Items;
+use std::alloc::{AllocError, Global};
 
-/// A line of a file.
-#[derive(Clone, Copy, Debug)]
-pub struct Place {
-    /// The file.
-    pub file: FileName,
-    /// The line's number, from 1, or 0 for the whole executable.
-    pub line: u32,
+/// The most points of a program.
+const MOST_POINTS: usize = 131_072;
+
+/// The machine that three texts describe.
+pub fn described(alloc: Global, sled: &[u8], ssl: &[u8], conv: &[u8]) -> Result<Described, Outcome>
+    requires sled { length sled.now < 2 ^ 32 - 1 }
+    requires ssl { length ssl.now < 2 ^ 32 - 1 }
+    requires conv { length conv.now < 2 ^ 32 - 1 }
+    ensures described { IfOk result (λ d. AreOf (record { sled = sled.now; ssl = ssl.now; conv = conv.now }) d) }
+    ensures sound { IfOk result (λ d. AreSoundTogether d.encodings d.named.machine d.conv) }
+    ensures refused { IfErr result (λ o. AreRefused (record { sled = sled.now; ssl = ssl.now; conv = conv.now }) o) }
+{
+    match read_descriptions(alloc, sled, ssl, conv) {
+        Ok(described) => Ok(described),
+        Err(Undescribed::Sled(fault)) => Err(Outcome::Description {
+            file: FileName::Sled,
+            fault,
+        }),
+        Err(Undescribed::Ssl(fault)) => Err(Outcome::Description {
+            file: FileName::Ssl,
+            fault,
+        }),
+        Err(Undescribed::Conv(fault)) => Err(Outcome::Description {
+            file: FileName::Conv,
+            fault,
+        }),
+        Err(Undescribed::NoMemory) => Err(Outcome::NoMemory),
+    }
 }
 
-/// The code of the executable, where the texts are those of the small machine; else the first line that isn't
-/// built.
-pub fn built_code<'a>(
-    sled: &Text,
-    ssl: &Text,
-    conv: &Text,
-    exe: &'a Text,
-) -> Result<&'a [u8], Place>
-    ensures built { IfOk result (λ code. IsBuilt (record { sled = sled.now; ssl = ssl.now; conv = conv.now; exe = exe.now }) code.now) }
-    ensures unbuilt { IfErr result (λ place. IsUnbuilt (record { sled = sled.now; ssl = ssl.now; conv = conv.now; exe = exe.now }) place.file place.line) }
+/// The image of an executable for a described machine.
+pub fn loaded(alloc: Global, exe: &[u8], on: &Described) -> Result<Image, Outcome>
+    requires { AreSoundTogether on.now.encodings on.now.named.machine on.now.conv }
+    ensures image { IfOk result (λ image. IsImageOf on.now exe.now image) }
+    ensures ready { IfOk result (λ image. IsReady image) }
+    ensures refused { IfErr result (λ o. IsRefusedExe (IsExeFault on.now exe.now) o) }
 {
-    if let Some(line) = first_unlike(sled.bytes(), &small_texts::sled()) {
-        return Err(Place {
-            file: FileName::Sled,
-            line,
-        });
+    let elf = match read_elf(alloc, exe, &on.conv, on.named.machine.order) {
+        Ok(elf) => elf,
+        Err(ElfFault::NoMemory) => return Err(Outcome::NoMemory),
+        Err(fault) => return Err(Outcome::Executable(ExeFault::Elf(fault))),
+    };
+    match make_image(alloc, &elf, &on.conv) {
+        Ok(image) => Ok(image),
+        Err(ImageFault::AreaOverlap { index }) => {
+            Err(Outcome::Executable(ExeFault::AreaOverlap { index }))
+        }
+        Err(ImageFault::NoMemory) => Err(Outcome::NoMemory),
     }
-    if let Some(line) = first_unlike(ssl.bytes(), &small_texts::ssl()) {
-        return Err(Place {
-            file: FileName::Ssl,
-            line,
-        });
+}
+
+/// Segments as those of a C text.
+fn segments_of(alloc: Global, segments: &[Segment]) -> Result<Items<CSeg>, AllocError>
+    ensures { IfOk result (λ all. all ≡ map segment_of (map segment_part segments.now)) }
+{
+    let mut all = Items::new(alloc);
+    for segment in segments {
+        all.push(CSeg {
+            base: segment.base,
+            write: segment.write,
+            len: segment.len,
+            bytes: Items::from_slice(alloc, segment.bytes.as_slice())?,
+        })?;
     }
-    if let Some(line) = first_unlike(conv.bytes(), &small_texts::conv()) {
-        return Err(Place {
-            file: FileName::Conv,
-            line,
-        });
+    Ok(all)
+}
+
+/// The C program of an image on a described machine.
+pub fn program_of(alloc: Global, on: &Described, image: &Image) -> Result<Program, Outcome>
+    requires sound { AreSoundTogether on.now.encodings on.now.named.machine on.now.conv }
+    requires ready { IsReady image.now }
+    ensures translation { IfOk result (λ p. IsTranslation (setting_with on.now image.now) (parts_of image.now) image.now.entry p) }
+    ensures refused { IfErr result (λ o. IsLong on.now image.now o) }
+{
+    let matcher = Matcher::build(alloc, &on.encodings)?;
+    let bundle = Bundle {
+        machine: &on.named.machine,
+        matcher: &matcher,
+        conv: &on.conv,
+        frozen: &image.frozen,
+    };
+    let segments = segments_of(alloc, image.segments.as_slice())?;
+    match line_program(alloc, &bundle, segments, MOST_POINTS, image.entry)? {
+        Some(program) => Ok(program),
+        None => Err(Outcome::Executable(ExeFault::TooLarge { points: 131_073 })),
     }
-    exe_code(exe.bytes()).ok_or(Place {
-        file: FileName::Exe,
-        line: 0,
-    })
+}
+
+/// The C program of an executable on the machine that three texts describe.
+pub fn translated(
+    alloc: Global,
+    sled: &[u8],
+    ssl: &[u8],
+    conv: &[u8],
+    exe: &[u8],
+) -> Result<Program, Outcome>
+    requires sled { length sled.now < 2 ^ 32 - 1 }
+    requires ssl { length ssl.now < 2 ^ 32 - 1 }
+    requires conv { length conv.now < 2 ^ 32 - 1 }
+    ensures program { IfOk result (λ p. Translates (record { sled = sled.now; ssl = ssl.now; conv = conv.now }) exe.now p) }
+    ensures refused { IfErr result (λ o. IsRefused (record { sled = sled.now; ssl = ssl.now; conv = conv.now }) exe.now o) }
+{
+    let on = described(alloc, sled, ssl, conv)?;
+    let image = loaded(alloc, exe, &on)?;
+    program_of(alloc, &on, &image)
 }

@@ -3,15 +3,15 @@
 #![tactic(auto)]
 
 mod built;
-mod executable;
-mod lines;
 mod message;
 mod outcome;
 mod reading;
-mod small_texts;
-#[cfg(test)]
-mod tests;
+mod told;
 mod top;
 
-pub use outcome::{FileName, Outcome};
+pub use descriptions::DescFault;
+pub use outcome::{ExeFault, FileName, Outcome};
 pub use top::uqbt_main;
+
+#[cfg(test)]
+mod tests;

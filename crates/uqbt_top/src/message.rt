@@ -1,9 +1,13 @@
 // The line that tells an answer.
-ghost use Rattle.std.specs.Prelude.{map};
+ghost use Rattle.std.specs.Prelude.{[], ◌∷◌, ◌++◌, map};
 ghost use Rattle.edge_io.specs.Output.{TookFront};
 ghost use Rattle.uqbt_top.specs.Message.{message_of, joined};
+ghost use Rattle.uqbt_top.specs.Told.{told_words};
 
-use crate::Outcome;
+use crate::told::{Numbers, Told, description, executable};
+use crate::{FileName, Outcome};
+use c_text::hex_of;
+use descriptions::DescFault;
 use edge_io::{Sink, put_all};
 use itoa::Buffer;
 
@@ -18,6 +22,48 @@ fn put_pieces<M: Sink>(messages: &mut M, pieces: &[&[u8]])
     }
 }
 
+// Puts a front, a blank, what is told, and a line feed.
+fn tell_fault<M: Sink>(messages: &mut M, front: &'static [u8], told: &Told)
+    ensures { TookFront (M.output messages.old) (M.output messages.new) (front.now ++ (told_words told.now ++ 10 ∷ [])) }
+{
+    match told.numbers {
+        Numbers::Nothing => put_pieces(messages, &[front, told.word, b"\n"]),
+        Numbers::One(number) => {
+            let mut buffer = Buffer::new();
+            let digits = buffer.format(number).as_bytes();
+            put_pieces(messages, &[front, told.word, b" ", digits, b"\n"]);
+        }
+        Numbers::Three(line, left, right) => {
+            let mut buffers = (Buffer::new(), Buffer::new(), Buffer::new());
+            let line = buffers.0.format(line).as_bytes();
+            let left = buffers.1.format(left).as_bytes();
+            let right = buffers.2.format(right).as_bytes();
+            put_pieces(
+                messages,
+                &[front, told.word, b" ", line, b" ", left, b" ", right, b"\n"],
+            );
+        }
+        Numbers::Address(address) => {
+            let digits = hex_of(address);
+            put_pieces(messages, &[front, told.word, b" 0x", &digits, b"\n"]);
+        }
+    }
+}
+
+// Puts the line for a fault of a description.
+fn tell_description<M: Sink>(messages: &mut M, file: FileName, fault: &DescFault)
+    ensures { TookFront (M.output messages.old) (M.output messages.new) (message_of (Outcome.Description file fault.now)) }
+{
+    let told = description(fault);
+    match file {
+        FileName::Sled => tell_fault(messages, b"uqbt: description sled ", &told),
+        FileName::Ssl => tell_fault(messages, b"uqbt: description ssl ", &told),
+        FileName::Conv => tell_fault(messages, b"uqbt: description conv ", &told),
+        FileName::Exe => tell_fault(messages, b"uqbt: description exe ", &told),
+        FileName::Prog => tell_fault(messages, b"uqbt: description prog ", &told),
+    }
+}
+
 /// Puts the line that tells the answer, or the front of it that the sink takes before it fails.
 pub fn tell<M: Sink>(messages: &mut M, outcome: &Outcome)
     ensures { TookFront (M.output messages.old) (M.output messages.new) (message_of outcome.now) }
@@ -25,16 +71,12 @@ pub fn tell<M: Sink>(messages: &mut M, outcome: &Outcome)
     match outcome {
         Outcome::Done => put_pieces(messages, &[b"uqbt: done\n"]),
         Outcome::Usage => put_pieces(messages, &[b"uqbt: usage\n"]),
+        Outcome::Description { file, fault } => tell_description(messages, *file, fault),
+        Outcome::Executable(fault) => {
+            tell_fault(messages, b"uqbt: executable ", &executable(fault));
+        }
         Outcome::FileTooLong { file } => {
             put_pieces(messages, &[b"uqbt: file-too-long ", file.word(), b"\n"]);
-        }
-        Outcome::NoTemplate { file, line } => {
-            let mut digits = Buffer::new();
-            let number = digits.format(*line).as_bytes();
-            put_pieces(
-                messages,
-                &[b"uqbt: no-template ", file.word(), b" ", number, b"\n"],
-            );
         }
         Outcome::NoMemory => put_pieces(messages, &[b"uqbt: no-memory\n"]),
         Outcome::WriteFault => put_pieces(messages, &[b"uqbt: write-fault\n"]),

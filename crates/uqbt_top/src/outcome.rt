@@ -2,6 +2,8 @@
 ghost use Rattle.std.specs.Prelude.{◌≡◌};
 ghost use Rattle.uqbt_top.specs.Message.{status_of, file_word, limit_of};
 
+use descriptions::DescFault;
+use elf32::ElfFault;
 use std::alloc::{AllocError, AllocFailed};
 
 /// A file of a command.
@@ -19,6 +21,23 @@ pub enum FileName {
     Prog,
 }
 
+/// What refuses an executable.
+#[derive(Clone, Copy, Debug, PartialEq, Eq)]
+pub enum ExeFault {
+    /// The file has this fault.
+    Elf(ElfFault),
+    /// The segment of this program header, counted from 0, shares a byte with the stack or the heap; none before it does.
+    AreaOverlap {
+        /// The header's number.
+        index: u32,
+    },
+    /// The entry's procedure has more than 131,072 points; the number told is 131,073.
+    TooLarge {
+        /// The number told.
+        points: u32,
+    },
+}
+
 /// What a run of the program answers.
 #[derive(Clone, Copy, Debug, PartialEq, Eq)]
 pub enum Outcome {
@@ -31,14 +50,15 @@ pub enum Outcome {
         /// That file.
         file: FileName,
     },
-    /// The first line, in the order of the files, that is of a form which isn't built. An executable of such
-    /// a form is its line 0.
-    NoTemplate {
-        /// The line's file.
+    /// The first of the three descriptions that has a fault, and its first fault.
+    Description {
+        /// The description.
         file: FileName,
-        /// Its number, from 1.
-        line: u32,
+        /// Its fault.
+        fault: DescFault,
     },
+    /// The first fault of the executable.
+    Executable(ExeFault),
     /// No memory was found.
     NoMemory,
     /// Standard output failed.
@@ -102,8 +122,9 @@ impl Outcome {
         match self {
             Outcome::Done => 0,
             Outcome::Usage => 64,
+            Outcome::Description { .. } => 65,
+            Outcome::Executable(_) => 67,
             Outcome::FileTooLong { .. } => 68,
-            Outcome::NoTemplate { .. } => 69,
             Outcome::NoMemory => 71,
             Outcome::WriteFault => 73,
             Outcome::ReadFault => 74,

@@ -1,2 +1,0 @@
-mod Registers
-mod SmallSetting

@@ -1,0 +1,121 @@
+-- What is built of files, and what is done with them.
+use Rattle.std.proofs.Common.{◌≡◌, ℕ, zero, suc, ◌+◌, ◌<◌, List, [], ◌∷◌, ◌++◌, length, map, take, get_or, Option, None, true, false, ◌≤◌, ◌-◌, ◌^◌, refl, sym, ap, ◌∙◌, subst, arith}
+use Rattle.std.specs.Prelude.{is_some, All, codes}
+use Rattle.std.specs.Str.{bytes_eq}
+use Rattle.std.proofs.lemmas.List.Elements.{All-nil, All-cons, All-head, All-tail}
+use Rattle.rtl_core.specs.declared.encodings.Encodings.{Encodings}
+use Rattle.points.specs.Machine.{Setting}
+use Rattle.load_image.specs.declared.image.Image.{Image}
+use Rattle.c_lang.specs.declared.tree.Program.{Program}
+use Rattle.descriptions.specs.declared.described.Described.{Described}
+use Rattle.edge_io.specs.Files.{Files, Names}
+use Rattle.edge_io.specs.Output.{Output}
+use Rattle.elf32.specs.declared.elf.Segment.{Segment}
+use Rattle.load_image.specs.Mapped.{segment_part}
+use Rattle.line_reading.proofs.TextLaws.{take_next}
+use Rattle.c_lang.specs.declared.tree.CSeg.{CSeg}
+use Rattle.c_emit.specs.Emitted.{AreShortSegments, IsTranslation, TranslatesLines}
+use Rattle.c_emit.specs.Line.{segment_of, ends_within}
+use Rattle.uqbt_top.specs.declared.outcome.Outcome.{Outcome}
+use Rattle.uqbt_top.specs.declared.outcome.Outcome.TheVariants.{Done, Usage, Description, Executable, FileTooLong, NoMemory, WriteFault, ReadFault}
+use Rattle.uqbt_top.specs.Wanted.{AreFiles}
+use Rattle.uqbt_top.specs.Command.{Check, three_files}
+use Rattle.uqbt_top.specs.Built.{Descriptions, AreRefused, IsRefused, IsReady, setting_with, parts_of, most_points}
+use Rattle.uqbt_top.specs.Causes.{of_check, of_translate, CheckRead, TranslateRead, CommandCaused, Caused}
+
+-- ---- segments
+
+maps-push : (ls : List Segment) (s : Segment) → map segment_of (map segment_part (ls ++ s ∷ [])) ≡ map segment_of (map segment_part ls) ++ segment_of (segment_part s) ∷ []
+maps-push [] s = refl
+maps-push (l ∷ ls) s = ap (λ cs. segment_of (segment_part l) ∷ cs) (maps-push ls s)
+
+-- one segment more
+pub segment_more : (ls : List Segment) (i : ℕ) (s : Segment) (out new : List CSeg) → i < length ls → s ≡ get_or ls i s → out ≡ map segment_of (map segment_part (take i ls))
+    → new ≡ out ++ segment_of (segment_part s) ∷ [] → new ≡ map segment_of (map segment_part (take (i + 1) ls))
+segment_more ls i s out new h at o n =
+    n ∙ ap (λ cs. cs ++ segment_of (segment_part s) ∷ []) o
+    ∙ sym (ap (λ l. map segment_of (map segment_part l)) (take_next ls i s h ∙ ap (λ z. take i ls ++ z ∷ []) (sym at)) ∙ maps-push (take i ls) s)
+
+-- ---- checks
+
+-- three texts are these
+pub three_texts : (texts : List (List ℕ)) (a b c d e f : List ℕ) → length texts ≡ 3 → a ≡ get_or texts 0 d → b ≡ get_or texts 1 e → c ≡ get_or texts 2 f → texts ≡ a ∷ b ∷ c ∷ []
+three_texts [] a b c d e f n x y z = absurd (omega (arith, n))
+three_texts (p ∷ []) a b c d e f n x y z = absurd (omega (arith, n))
+three_texts (p ∷ q ∷ []) a b c d e f n x y z = absurd (omega (arith, n))
+three_texts (p ∷ q ∷ r ∷ []) a b c d e f n x y z = rw (x, y, z) refl
+three_texts (p ∷ q ∷ r ∷ s ∷ ts) a b c d e f n x y z = absurd (omega (arith, n))
+
+-- four texts are these
+pub four_texts : (texts : List (List ℕ)) (a b c v d e f g : List ℕ) → length texts ≡ 4 → a ≡ get_or texts 0 d → b ≡ get_or texts 1 e → c ≡ get_or texts 2 f → v ≡ get_or texts 3 g → texts ≡ a ∷ b ∷ c ∷ v ∷ []
+four_texts [] a b c v d e f g n x y z w = absurd (omega (arith, n))
+four_texts (p ∷ []) a b c v d e f g n x y z w = absurd (omega (arith, n))
+four_texts (p ∷ q ∷ []) a b c v d e f g n x y z w = absurd (omega (arith, n))
+four_texts (p ∷ q ∷ r ∷ []) a b c v d e f g n x y z w = absurd (omega (arith, n))
+four_texts (p ∷ q ∷ r ∷ s ∷ []) a b c v d e f g n x y z w = rw (x, y, z, w) refl
+four_texts (p ∷ q ∷ r ∷ s ∷ u ∷ ts) a b c v d e f g n x y z w = absurd (omega (arith, n))
+
+-- descriptions that are refused
+pub check_refused : (texts : List (List ℕ)) (t : Descriptions) (o : Outcome) → texts ≡ of_check t → AreRefused t o → (out : Output) → CheckRead texts out out o
+check_refused texts t (Description file fault) is r out = record { texts = t; whole = is; did = r; kept = refl }
+check_refused texts t NoMemory is r out = record { texts = t; whole = is; did = tt; kept = refl }
+check_refused texts t Done is r out = absurd r
+check_refused texts t Usage is r out = absurd r
+check_refused texts t (Executable fault) is r out = absurd r
+check_refused texts t (FileTooLong file) is r out = absurd r
+check_refused texts t WriteFault is r out = absurd r
+check_refused texts t ReadFault is r out = absurd r
+
+-- what was found is why the command answers
+pub check_caused : (told : Option Files) (sled ssl conv : List ℕ) (old new : Names) (bytes : List (List ℕ)) (o : Outcome) → AreFiles told (three_files sled ssl conv) bytes → new ≡ old
+    → ((out : Output) → CheckRead bytes out out o) → (out : Output) → CommandCaused told (Check sled ssl conv) old new out out o
+check_caused told sled ssl conv old new bytes Done read kept did out = record { kept = kept; bytes = bytes; were_read = read; did = did out }
+check_caused told sled ssl conv old new bytes (Description file fault) read kept did out = record { kept = kept; bytes = bytes; were_read = read; did = did out }
+check_caused told sled ssl conv old new bytes NoMemory read kept did out = kept
+check_caused told sled ssl conv old new bytes Usage read kept did out = absurd (did out).did
+check_caused told sled ssl conv old new bytes (Executable fault) read kept did out = absurd (did out).did
+check_caused told sled ssl conv old new bytes (FileTooLong file) read kept did out = absurd (did out).did
+check_caused told sled ssl conv old new bytes WriteFault read kept did out = absurd (did out).did
+check_caused told sled ssl conv old new bytes ReadFault read kept did out = absurd (did out).did
+
+-- ---- translations
+
+-- files of which nothing is translated
+pub translate_refused : (texts : List (List ℕ)) (t : Descriptions) (exe : List ℕ) (o : Outcome) (out : Output) → texts ≡ of_translate t exe → IsRefused t exe o → TranslateRead texts out out o
+translate_refused texts t exe (Description file fault) out is r = record { texts = t; exe = exe; whole = is; did = r }
+translate_refused texts t exe (Executable fault) out is r = record { texts = t; exe = exe; whole = is; did = r }
+translate_refused texts t exe NoMemory out is r = record { texts = t; exe = exe; whole = is; did = tt }
+translate_refused texts t exe Done out is r = absurd r
+translate_refused texts t exe Usage out is r = absurd r
+translate_refused texts t exe (FileTooLong file) out is r = absurd r
+translate_refused texts t exe WriteFault out is r = absurd r
+translate_refused texts t exe ReadFault out is r = absurd r
+
+short_segments : (ls : List Segment) → All (λ s. length s.bytes ≤ 2 ^ 32 - 1) ls → AreShortSegments (map segment_of (map segment_part ls))
+short_segments [] h = All-nil (λ s. length s.bytes ≤ 2 ^ 32 - 1)
+short_segments (l ∷ ls) h =
+    All-cons (λ s. length s.bytes ≤ 2 ^ 32 - 1) (segment_of (segment_part l)) (map segment_of (map segment_part ls))
+    (All-head (λ s. length s.bytes ≤ 2 ^ 32 - 1) l ls h) (short_segments ls (All-tail (λ s. length s.bytes ≤ 2 ^ 32 - 1) l ls h))
+
+-- a machine with an image, by encodings that are its own
+abbrev pub setting_by : Encodings → Described → Image → Setting
+setting_by e d i = record { encodings = e; machine = d.named.machine; conv = d.conv; frozen = i.frozen }
+
+-- a text of the line of an image is a translation of it
+pub is_translated : (d : Described) (i : Image) (e : Encodings) (segments : List CSeg) (p : Program) → e ≡ d.encodings → segments ≡ map segment_of (map segment_part i.segments) → IsReady i
+    → TranslatesLines (setting_by e d i) segments i.entry p → IsTranslation (setting_with d i) (parts_of i) i.entry p
+is_translated d i e segments p same are ready translates =
+    subst (λ x. IsTranslation (setting_by x d i) (parts_of i) i.entry p) same
+    (translates (parts_of i) are (subst AreShortSegments (sym are) (short_segments i.segments ready.segments)))
+
+-- an image without a text is too large
+pub is_long : (d : Described) (i : Image) (e : Encodings) (found : Option Program) → e ≡ d.encodings → is_some found ≡ ends_within (setting_by e d i) most_points i.entry → found ≡ None
+    → ends_within (setting_with d i) most_points i.entry ≡ false
+is_long d i e found same long none = ap (λ x. ends_within (setting_by x d i) most_points i.entry) (sym same) ∙ sym long ∙ ap is_some none
+
+-- ---- words
+
+-- four words of which the first is `check`
+pub checked_words : (told : Option Files) (words : List (List ℕ)) (word sled ssl conv : List ℕ) (old new : Names) (out : Output) (o : Outcome) → words ≡ word ∷ sled ∷ ssl ∷ conv ∷ [] → bytes_eq word (codes "check") ≡ true
+    → CommandCaused told (Check sled ssl conv) old new out out o → Caused told words old new out out o
+checked_words told words word sled ssl conv old new out o is check did = rw (is, check) did

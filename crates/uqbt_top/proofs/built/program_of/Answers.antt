@@ -1,0 +1,18 @@
+use Rattle.std.proofs.Common.{refl, sym, ap, ◌∙◌, subst}
+use Rattle.std.specs.Prelude.{IfSome, map}
+use Rattle.c_emit.specs.Emitted.{TranslatesLines}
+use Rattle.c_emit.specs.Line.{segment_of}
+use Rattle.load_image.specs.Mapped.{segment_part}
+use Rattle.uqbt_top.proofs.BuiltLaws.{is_translated, is_long, setting_by}
+use Rattle.uqbt_top.proofs.built.program_of.Goals as goal
+
+pub returns-in-Some-clause-translation : goal.returns-in-Some-clause-translation
+returns-in-Some-clause-translation c =
+    let d = c.args.on.now in
+    let i = c.args.image.now in
+    is_translated d i c.in_ok-matcher.matcher c.in_ok-segments.segments c.in-Some.program c.in_ok-matcher.ensures
+    (c.in_ok-segments.ensures ∙ ap (λ ls. map segment_of (map segment_part ls)) c.as_slice.ensures) c.requires.ready
+    (subst (λ o. IfSome o (TranslatesLines (setting_by c.in_ok-matcher.matcher d i) c.in_ok-segments.segments i.entry)) c.in-Some.is c.in_ok-program.ensures.translation)
+
+pub returns-clause-refused : goal.returns-clause-refused
+returns-clause-refused c = (refl, is_long c.args.on.now c.args.image.now c.in_ok-matcher.matcher c.in_ok-program.field-0 c.in_ok-matcher.ensures c.in_ok-program.ensures.long c.in-None.is)
