@@ -243,33 +243,6 @@ fn the_line_of_an_answer_is_told(rt: HostRuntime) -> Result<(), Fail> {
 }
 
 #[test]
-fn an_instruction_that_jumps_is_accepted(rt: HostRuntime) -> Result<(), Fail> {
-    let alloc = rt.alloc();
-    let sled = changed(
-        alloc,
-        SLED,
-        b"0x91D02010",
-        b"0x91D02010\nconstructor J is all = 0",
-    )?;
-    let ssl = changed(
-        alloc,
-        SSL,
-        b":= service",
-        b":= service\ninstruction J () := jump %pc",
-    )?;
-    let texts = Texts {
-        sled: &sled,
-        ssl: &ssl,
-        ..FINE
-    };
-    assert_eq!(rt;
-        plainly(alloc, b"translate", b"abcd", &texts)?,
-        Outcome::Done
-    );
-    Ok(())
-}
-
-#[test]
 fn an_executable_cut_short_is_refused(rt: HostRuntime) -> Result<(), Fail> {
     let alloc = rt.alloc();
     let texts = Texts {
