@@ -29,7 +29,7 @@ use Rattle.c_lower.specs.Cells.{cell_c, set_c}
 use Rattle.c_lower.specs.Tidy.{Reads, number, a_cell, a_temp, count, two, three, Tidy, ends, sets_temp, sets_cell, sets_count, loads, stores, takes, puts, tests, stops}
 use Rattle.c_lower.proofs.GroundBound.{instructions_lowered}
 use Rattle.c_emit.specs.Emitted.{setting_of, text_of, line_temporaries, IsSoundBundle}
-use Rattle.c_emit.specs.Line.{does, is_named, named_cells, flag_c, answer_c, service_c, service_due_c, served_c, stmts_for, end_for, line_block, onward, along, line, line_function, couple_c, couples_c}
+use Rattle.c_emit.specs.Line.{does, is_named, named_cells, flag_c, answer_c, service_c, service_due_c, served_c, stmts_for, never_goes_on, end_behind, end_for, line_block, onward, along, line, line_function, couple_c, couples_c}
 use Rattle.c_emit.specs.LineTheorem.{lowering}
 use Rattle.c_emit.proofs.CellLaws.{named_there}
 use Rattle.c_emit.proofs.LineStart.{named-below}
@@ -211,7 +211,11 @@ module _ (setting : Setting) (sound : IsSoundMachine setting.machine) (fits : Fi
   end-narrow : (pc : ℕ) → pc < 2 ^ 32 → (s : Standing) → standing setting pc ≡ s → end_number (end_for pc s) < 2 ^ 32
   end-narrow pc below Outside e = rw (number-Num pc) (omega arith)
   end-narrow pc below Illegal e = rw (number-Num pc) (omega arith)
-  end-narrow pc below (Stands inst) e = omega (arith, standing-next setting pc inst e)
+  end-narrow pc below (Stands inst) e = by (never_goes_on inst.transfers)
+    where
+      by : (b : Bool) → end_number (end_behind pc (if b then None else Some inst.next)) < 2 ^ 32
+      by true = rw (number-Num pc) (omega arith)
+      by false = omega (arith, standing-next setting pc inst e)
 
   block-narrow : (pc : ℕ) → pc < 2 ^ 32 → block_number (block pc) < 2 ^ 32
   block-narrow pc below = omega (arith, below, stmts-narrow pc below (standing setting pc) refl, end-narrow pc below (standing setting pc) refl)
@@ -220,7 +224,11 @@ module _ (setting : Setting) (sound : IsSoundMachine setting.machine) (fits : Fi
       → largest (map block_number (map block (along [] (onward s) (line setting n)))) < 2 ^ 32
   along-narrow n pc more Outside e = omega arith
   along-narrow n pc more Illegal e = omega arith
-  along-narrow n pc more (Stands inst) e = more inst.next (standing-next setting pc inst e)
+  along-narrow n pc more (Stands inst) e = by (never_goes_on inst.transfers)
+    where
+      by : (b : Bool) → largest (map block_number (map block (along [] (if b then None else Some inst.next) (line setting n)))) < 2 ^ 32
+      by true = omega arith
+      by false = more inst.next (standing-next setting pc inst e)
 
   line-narrow : (n pc : ℕ) → pc < 2 ^ 32 → largest (map block_number (map block (line setting n pc))) < 2 ^ 32
   line-narrow zero pc below = omega arith

@@ -1,6 +1,7 @@
 pub mod SmallTextRuns
 pub mod LineLookups
 pub mod Middle
+pub mod GoingOn
 pub mod LineStep
 pub mod LineStart
 pub mod LineRuns

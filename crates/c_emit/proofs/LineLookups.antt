@@ -7,8 +7,12 @@ use Rattle.c_lang.specs.State.{has}
 use Rattle.c_lang.specs.Step.{block_of}
 use Rattle.c_emit.specs.Line.{Lowering, point_at, line_block, line, ends_within, onward, along}
 
-no_true : {A : Type 0} → false ≡ true → A
+pub no_true : {A : Type 0} → false ≡ true → A
 no_true e = let no : ⊥ = cc in absurd no
+
+pub or-true : (b : Bool) → (b || true) ≡ true
+or-true true = refl
+or-true false = refl
 
 module _ (low : Lowering) (setting : Setting) where
   -- an address of a list has its block
@@ -36,10 +40,6 @@ module _ (setting : Setting) where
       Later : ℕ → Type 0
       Later from = (pc next : ℕ) → has (line setting n from) pc ≡ true → onward (standing setting pc) ≡ Some next → ends_within setting n from ≡ true
           → has (line setting n from) next ≡ true
-
-      or-true : (b : Bool) → (b || true) ≡ true
-      or-true true = refl
-      or-true false = refl
 
       in_tail : (tail : List ℕ) → has tail next ≡ true → has (first ∷ tail) next ≡ true
       in_tail tail e = ap (λ b. nat_eq first next || b) e ∙ or-true (nat_eq first next)

@@ -37,10 +37,11 @@ use Rattle.c_lang.proofs.StepsFrom.{step-If, step-Serve, step-Stop, step-Goto, s
 use Rattle.c_lang.proofs.ValueLaws.{value-Num, value-Of}
 use Rattle.c_lower.specs.Cells.{cell_c, set_c}
 use Rattle.c_lower.specs.Contract.{Declares, IsHeaderOf, LeadsTo, ShowsDoing, jump_flag}
-use Rattle.c_emit.specs.Line.{Lowering, point_at, stmts_for, end_for, line_block, line, line_program, does, is_named, served_c, service_due_c, service_c, answer_c, flag_c, couple_c, couples_c}
+use Rattle.c_emit.specs.Line.{Lowering, point_at, stmts_for, never_goes_on, behind, end_behind, end_for, line_block, line, line_program, does, is_named, served_c, service_due_c, service_c, answer_c, flag_c, couple_c, couples_c}
 use Rattle.c_emit.specs.LineTheorem.{IsSoundLine}
 use Rattle.rtl_core.specs.SoundConv.{IsCellOf, IsCellIfAny, AreServiceCells, AreServiceNumbers}
 use Rattle.c_emit.proofs.LineLookups.{found, has-next}
+use Rattle.c_emit.proofs.GoingOn.{GoesOn, goes-on}
 use Rattle.c_emit.proofs.Middle.{Mid, AreDeclared, Go, KeepsTemps, one, last, read-cell, set-cell}
 
 module _ (low : Lowering) (temps most : ℕ) (setting : Setting) (parts : List Part) (n entry : ℕ) (sound : IsSoundLine low temps most setting n entry) where
@@ -82,11 +83,11 @@ module _ (low : Lowering) (temps most : ℕ) (setting : Setting) (parts : List P
     output_is = mid.output_is;
   }
 
-  jump : (a b : Machine.State) (inst : GroundInst) (t : State) → has (line setting n entry) a.point.pc ≡ true → standing setting a.point.pc ≡ Stands inst
+  jump : (a b : Machine.State) (inst : GroundInst) (t : State) → has (line setting n entry) a.point.pc ≡ true → standing setting a.point.pc ≡ Stands inst → behind inst ≡ Some inst.next
       → Mid m b.cells b.saved (world_of b) b.output t → t.top.place ≡ At [] (Goto (point_at inst.next)) → b.heap_end < 2 ^ 32
       → Way a (Goes (at_address b inst.next)) t → Reaches a (Goes (at_address b inst.next)) 0 t
-  jump a b inst t on stands mid place fits way =
-      let next_on = has-next setting n entry a.point.pc inst.next on (ap (λ s. Rattle.c_emit.specs.Line.onward s) stands) sound.ends in
+  jump a b inst t on stands ahead mid place fits way =
+      let next_on = has-next setting n entry a.point.pc inst.next on (ap (λ s. Rattle.c_emit.specs.Line.onward s) stands ∙ ahead) sound.ends in
       let block = line_block low setting inst.next in
       let at = found low setting (line setting n entry) inst.next next_on in
       last m p (Way a (Goes (at_address b inst.next))) (Matches Related (Goes (at_address b inst.next))) t (Goes (to_place t (At block.stmts block.end))) way
@@ -221,7 +222,8 @@ module _ (low : Lowering) (temps most : ℕ) (setting : Setting) (parts : List P
       by (Some v) x e f = ap (next_out (λ s. s.output)) (controlled-jumps did s v e)
 
   module _ (declared : AreDeclared m p) (a b : Machine.State) (inst : GroundInst) (did : Did) (on : has (line setting n entry) a.point.pc ≡ true) (stands : standing setting a.point.pc ≡ Stands inst)
-      (is_inst : did.inst ≡ inst) (may_jump : does is_jump inst.transfers ≡ false → did.jump ≡ None) (may_annul : does is_annul inst.transfers ≡ false → did.annul ≡ false) (same_point : b.point ≡ a.point)
+      (is_inst : did.inst ≡ inst) (goes_on : did.jump ≡ None → did.annul ≡ false → never_goes_on inst.transfers ≡ false)
+      (may_jump : does is_jump inst.transfers ≡ false → did.jump ≡ None) (may_annul : does is_annul inst.transfers ≡ false → did.annul ≡ false) (same_point : b.point ≡ a.point)
       (pc_fits : a.point.pc < 2 ^ 32) (same_out : b.output ≡ a.output) (fits : b.heap_end < 2 ^ 32) (fit_b : Fit m b.cells) where
     way-keeps : (next : MNext) (t u : State) → u.outer.output ≡ t.outer.output → Way a next t → Way a next u
     way-keeps next t u same (inl e) = inl (same ∙ e)
@@ -229,7 +231,7 @@ module _ (low : Lowering) (temps most : ℕ) (setting : Setting) (parts : List P
 
     -- the end of the block, and the stops before it
     abbrev end_c : End
-    end_c = Goto (point_at inst.next)
+    end_c = end_behind a.point.pc (behind inst)
 
     abbrev stops_c : List Stmt
     stops_c = couples_c a.point.pc inst.transfers
@@ -239,7 +241,8 @@ module _ (low : Lowering) (temps most : ℕ) (setting : Setting) (parts : List P
         → Way a next t → Reaches a next 0 t
     goes next s t none false_is e mid place fits' way =
         let same : next ≡ Goes (at_address s inst.next) = e ∙ controlled-goes setting did s none false_is ∙ ap (λ i. Goes (at_address s i.next)) is_inst in
-        subst (λ x. Reaches a x 0 t) (sym same) (jump a s inst t on stands mid place fits' (subst (λ x. Way a x t) same way))
+        let ahead : behind inst ≡ Some inst.next = ap (λ b. if b then None else Some inst.next) (goes_on none false_is) in
+        subst (λ x. Reaches a x 0 t) (sym same) (jump a s inst t on stands ahead mid (place ∙ ap (λ o. At [] (end_behind a.point.pc o)) ahead) fits' (subst (λ x. Way a x t) same way))
 
     couple-at : (s : Machine.State) (next : MNext) → s.point ≡ a.point → next ≡ Ends s.output (Stop.Couple s.point.pc) → next ≡ Ends s.output (Stop.Couple a.point.pc)
     couple-at s next at e = e ∙ ap (λ q. Ends s.output (Stop.Couple q.pc)) at
@@ -394,31 +397,31 @@ module _ (low : Lowering) (temps most : ℕ) (setting : Setting) (parts : List P
 
   module _ (declared : AreDeclared m p) (declares : (s : State) → s.top.function ≡ 0 → Declares p (is_named m) temps s) (header : IsHeaderOf m p) where
     -- behind the statements of the transfers
-    behind_transfers : (a : Machine.State) (c : State) (inst : GroundInst) → Related a c → standing setting a.point.pc ≡ Stands inst → (r : Ran)
+    behind_transfers : (a : Machine.State) (c : State) (inst : GroundInst) → Related a c → standing setting a.point.pc ≡ Stands inst → (r : Ran) → GoesOn inst.transfers r
         → (does is_jump inst.transfers ≡ false → Keeps (λ d. d.jump) None r) → (does is_annul inst.transfers ≡ false → Keeps (λ d. d.annul) false r) → (does is_service inst.transfers ≡ false → Keeps (λ d. d.service) false r)
-        → (y : CNext) → LeadsTo m (is_named m) c (served_c m conv inst.transfers ++ couples_c a.point.pc inst.transfers) (Goto (point_at inst.next)) r y
+        → (y : CNext) → LeadsTo m (is_named m) c (served_c m conv inst.transfers ++ couples_c a.point.pc inst.transfers) (end_behind a.point.pc (behind inst)) r y
         → Advances (step p) (Way a (concluded setting inst a r)) (Matches Related (concluded setting inst a r)) 6 y
-    behind_transfers a c inst r stands (Halted stop d) jump annul service y leads =
+    behind_transfers a c inst r stands (Halted stop d) on jump annul service y leads =
         let P = Way a (Ends a.output stop) in
         subst (λ y. Advances (step p) P (Matches Related (Ends a.output stop)) 6 y) (sym leads) (r.mid.output_is, refl)
-    behind_transfers a c inst r stands (Went d) jump annul service y leads =
+    behind_transfers a c inst r stands (Went d) on jump annul service y leads =
         let t = leads.0 in
-        let behind = leads.2 in
+        let shown = leads.2 in
         let b = after_transfers a d in
         let did : Did = record { inst = inst; jump = d.jump; annul = d.annul } in
         let next = finished setting did d.service conv.service b in
         let mid : Mid m b.cells b.saved (world_of b) b.output t = record {
-          function = behind.function ∙ r.mid.function;
-          below = behind.below ∙ r.mid.below;
-          shows = behind.shows.cells;
-          fit = behind.shows.fit;
-          windows = behind.shows.saved;
-          world_is = world-is t.outer.world d.memory a.input a.heap_end behind.shows.memory (behind.input ∙ ap (λ w. w.input) r.mid.world_is) (behind.heap_end ∙ ap (λ w. w.heap_end) r.mid.world_is);
-          output_is = behind.output ∙ r.mid.output_is;
+          function = shown.function ∙ r.mid.function;
+          below = shown.below ∙ r.mid.below;
+          shows = shown.shows.cells;
+          fit = shown.shows.fit;
+          windows = shown.shows.saved;
+          world_is = world-is t.outer.world d.memory a.input a.heap_end shown.shows.memory (shown.input ∙ ap (λ w. w.input) r.mid.world_is) (shown.heap_end ∙ ap (λ w. w.heap_end) r.mid.world_is);
+          output_is = shown.output ∙ r.mid.output_is;
         } in
         subst (λ y. Advances (step p) (Way a next) (Matches Related next) 6 y) (sym leads.1)
-        (tail declared a b inst did r.on stands refl jump annul refl r.pc_fits refl r.break_fits behind.shows.fit (does is_service inst.transfers) conv.service d.service t refl service mid behind.place behind.serves
-        (record { jumps = behind.jumps; annuls = behind.annuls }))
+        (tail declared a b inst did r.on stands refl on jump annul refl r.pc_fits refl r.break_fits shown.shows.fit (does is_service inst.transfers) conv.service d.service t refl service mid shown.place shown.serves
+        (record { jumps = shown.jumps; annuls = shown.annuls }))
       where
         world-is : (w : World) (memory : Contents) (input : List ℕ) (heap_end : ℕ) → w.memory ≡ memory → w.input ≡ input → w.heap_end ≡ heap_end
             → w ≡ record { memory = memory; input = input; heap_end = heap_end }
@@ -432,7 +435,7 @@ module _ (low : Lowering) (temps most : ℕ) (setting : Setting) (parts : List P
     instruction a c inst r stands =
         let ts = inst.transfers in
         let rest = served_c m conv ts ++ couples_c a.point.pc ts in
-        let end = Goto (point_at inst.next) in
+        let end = end_behind a.point.pc (behind inst) in
         let same_memory : c.outer.world.memory ≡ a.memory = ap (λ w. w.memory) r.mid.world_is in
         let ran = all_transferred m a.point.pc ts (fresh a.cells a.memory a.saved) in
         let place : c.top.place ≡ At (low m a.point.pc ts ++ rest) end =
@@ -448,7 +451,7 @@ module _ (low : Lowering) (temps most : ℕ) (setting : Setting) (parts : List P
         let next = concluded setting inst a ran in
         advance_behind (step p) (Way a next) (Q ran) (Matches Related next)
         (narrow (step p) P (Way a next) (Q ran) (λ t e. inl (e ∙ r.mid.output_is)) at_c)
-        (behind_transfers a c inst r stands ran (no-jump m a.point.pc ts a.cells a.memory a.saved) (no-annul m a.point.pc ts a.cells a.memory a.saved)
+        (behind_transfers a c inst r stands ran (goes-on m a.point.pc ts (fresh a.cells a.memory a.saved)) (no-jump m a.point.pc ts a.cells a.memory a.saved) (no-annul m a.point.pc ts a.cells a.memory a.saved)
         (no-service m a.point.pc ts a.cells a.memory a.saved))
 
     -- whatever stands at the point

@@ -24,7 +24,7 @@ use Rattle.decode.specs.declared.Bundle.{Bundle}
 use Rattle.c_lower.specs.Cells.{cell_c, set_c}
 use Rattle.c_lower.proofs.GroundBound.{instructions_lowered}
 use Rattle.c_emit.specs.Emitted.{setting_of, text_of, line_temporaries, IsSoundBundle, AreShortSegments}
-use Rattle.c_emit.specs.Line.{does, is_named, flag_c, answer_c, service_c, service_due_c, served_c, stmts_for, end_for, line_block, onward, along, line, line_function, couple_c, couples_c}
+use Rattle.c_emit.specs.Line.{does, is_named, flag_c, answer_c, service_c, service_due_c, served_c, stmts_for, never_goes_on, end_behind, end_for, line_block, onward, along, line, line_function, couple_c, couples_c}
 use Rattle.c_emit.specs.LineTheorem.{lowering}
 use Rattle.c_emit.proofs.LineRuns.{names-all}
 use Rattle.c_lower.specs.Tidy.{Reads, number, a_cell, a_temp, count, two, three, Tidy, ends, sets_temp, sets_cell, sets_count, loads, stores, takes, puts, tests, stops}
@@ -239,7 +239,11 @@ module _ (setting : Setting) (sound : IsSoundMachine setting.machine) where
   end-form : (pc : ℕ) (s : Standing) → end_deepest (end_for pc s) ≤ 2000
   end-form pc Outside = rw (nesting-Num pc) (omega arith)
   end-form pc Illegal = rw (nesting-Num pc) (omega arith)
-  end-form pc (Stands inst) = omega arith
+  end-form pc (Stands inst) = by (never_goes_on inst.transfers)
+    where
+      by : (b : Bool) → end_deepest (end_behind pc (if b then None else Some inst.next)) ≤ 2000
+      by true = rw (nesting-Num pc) (omega arith)
+      by false = omega arith
 
   block-form : (pc : ℕ) → pc < 2 ^ 32 → BlockHasForm (block pc)
   block-form pc fits = record { stmts = stmts-form pc fits (standing setting pc) refl; end_exprs = end-form pc (standing setting pc) }
@@ -248,7 +252,11 @@ module _ (setting : Setting) (sound : IsSoundMachine setting.machine) where
       → All BlockHasForm (map block (along [] (onward s) (line setting n)))
   along-form n pc more Outside e = All-nil BlockHasForm
   along-form n pc more Illegal e = All-nil BlockHasForm
-  along-form n pc more (Stands inst) e = more inst.next (standing-next setting pc inst e)
+  along-form n pc more (Stands inst) e = by (never_goes_on inst.transfers)
+    where
+      by : (b : Bool) → All BlockHasForm (map block (along [] (if b then None else Some inst.next) (line setting n)))
+      by true = All-nil BlockHasForm
+      by false = more inst.next (standing-next setting pc inst e)
 
   pub line-form : (n pc : ℕ) → pc < 2 ^ 32 → All BlockHasForm (map block (line setting n pc))
   line-form zero pc fits = All-nil BlockHasForm

@@ -1,14 +1,16 @@
 -- The C text of a line of instructions, where no jump goes anywhere: one function with every cell
 -- but the zero cell as a parameter, and one block for each instruction.
-use Rattle.std.specs.Prelude.{ℕ, zero, suc, ◌+◌, ◌==◌, ◌&&◌, not, nat_lt, Bool, true, false, List, [], ◌∷◌, ◌++◌, length, map, filter, slice_index, is_some, Option, Some, None}
+use Rattle.std.specs.Prelude.{ℕ, zero, suc, ◌+◌, ◌==◌, ◌&&◌, not, nat_lt, Bool, true, false, if◌then◌else◌, List, [], ◌∷◌, ◌++◌, length, map, filter, slice_index, is_some, is_none, Option, Some, None}
 use Rattle.std.specs.List.{list_any}
 use Rattle.rtl_core.specs.declared.conv.Conv.{Conv}
 use Rattle.rtl_core.specs.declared.conv.ServiceShape.{ServiceShape}
 use Rattle.rtl_core.specs.declared.conv.Numbers.{Numbers}
+use Rattle.rtl_core.specs.declared.inst.GroundInst.{GroundInst}
 use Rattle.rtl_core.specs.declared.machine.Machine.{Machine}
 use Rattle.rtl_core.specs.declared.point.Point.{Point}
 use Rattle.rtl_core.specs.declared.point.Slot.TheVariants.{Seq}
 use Rattle.rtl_core.specs.declared.transfer.Act.{Act}
+use Rattle.rtl_core.specs.declared.transfer.Act.TheVariants.{Jump, Annul, Trap}
 use Rattle.rtl_core.specs.declared.transfer.Transfer.{Transfer}
 use Rattle.rtl_core.specs.SoundTerms.{is_service, is_jump, is_annul}
 use Rattle.rtl_core.specs.FirstMemory.{Part, first_cells}
@@ -91,11 +93,35 @@ stmts_for low setting pc Outside = []
 stmts_for low setting pc Illegal = []
 stmts_for low setting pc (Stands inst) = line_stmts low setting pc inst.transfers
 
+-- whether an act, where it is done, keeps control from going on: a trap, a jump or an annul
+abbrev pub leaves : Act → Bool
+leaves (Jump e) = true
+leaves Annul = true
+leaves (Trap e) = true
+leaves _ = false
+
+-- whether a transfer always keeps control from going on: it has no guard
+abbrev pub always_leaves : Transfer → Bool
+always_leaves t = is_none t.guard && leaves t.act
+
+-- whether control never goes on behind an instruction with these transfers
+abbrev pub never_goes_on : List Transfer → Bool
+never_goes_on ts = list_any always_leaves ts
+
+-- the address behind an instruction, where control can go on
+abbrev pub behind : GroundInst → Option ℕ
+behind inst = if never_goes_on inst.transfers then None else Some inst.next
+
+-- the end of the block of an instruction with this address behind it
+abbrev pub end_behind : ℕ → Option ℕ → End
+end_behind pc None = Finish couple_stop (Num pc)
+end_behind pc (Some next) = Goto (point_at next)
+
 -- the end of the block of an address
 abbrev pub end_for : ℕ → Standing → End
 end_for pc Outside = Finish undiscovered_stop (Num pc)
 end_for pc Illegal = Finish illegal_stop (Num pc)
-end_for pc (Stands inst) = Goto (point_at inst.next)
+end_for pc (Stands inst) = end_behind pc (behind inst)
 
 -- the block of an address
 abbrev pub line_block : Lowering → Setting → ℕ → CBlock
@@ -105,7 +131,7 @@ line_block low setting pc = record { label = point_at pc; stmts = stmts_for low 
 abbrev pub onward : Standing → Option ℕ
 onward Outside = None
 onward Illegal = None
-onward (Stands inst) = Some inst.next
+onward (Stands inst) = behind inst
 
 -- on at an address, where there is one
 abbrev pub along : {A : Type 0} → A → Option ℕ → (ℕ → A) → A

@@ -1,17 +1,17 @@
 //! The blocks of a line of instructions.
-ghost use Rattle.std.specs.Prelude.{◌≡◌, ◌++◌, [], ◌∷◌, Some, None, map, max, OnOk, IfOk};
+ghost use Rattle.std.specs.Prelude.{◌≡◌, ◌++◌, [], ◌∷◌, None, map, max, OnOk, IfOk};
 ghost use Rattle.points.specs.Machine.{Stands, standing};
 ghost use Rattle.c_lower.specs.Accounts.{lowered_need};
 ghost use Rattle.c_emit.specs.Emitted.{setting_of, standing_need, line_temporaries, IsSoundBundle};
-ghost use Rattle.c_emit.specs.Line.{ends_within, point_at, line, line_block, onward};
+ghost use Rattle.c_emit.specs.Line.{behind, ends_within, point_at, line, line_block, onward};
 ghost use Rattle.c_emit.specs.LineTheorem.{lowering};
 
-use crate::control::push_stops;
+use crate::control::{address_behind, block_end, push_stops, sequential};
 use crate::service::push_service;
 use c_lang::{CBlock, CExpr, End};
 use c_lower::{lower, temporaries};
 use decode::{Bundle, Found, inst_at};
-use rtl_core::{GroundInst, Point, Slot, try_ground};
+use rtl_core::{GroundInst, try_ground};
 use sqlite_items::Items;
 use std::alloc::{AllocError, Global};
 
@@ -32,7 +32,8 @@ pub(crate) struct LineText {
 }
 
 /// The blocks of the line from an address on, at most `most` of them, each instruction with its transfers, its
-/// service, its stops where it jumps or annuls, and the way to the address behind. An error is a want of memory.
+/// service, its stops where it jumps or annuls, and the way to the address behind where control can go on. An error is
+/// a want of memory.
 #[tactic(auto, using(crate::proofs::LineLaws::no_more_blocks, crate::proofs::LineLaws::line_ended, crate::proofs::LineLaws::no_more_needs, crate::proofs::LineLaws::needs_ended, crate::proofs::LineLaws::no_more_ends, crate::proofs::LineLaws::ends_ended))]
 pub(crate) fn line_blocks(
     alloc: Global,
@@ -116,7 +117,7 @@ fn push_instruction(
     requires stands { standing (setting_of on.now) pc ≡ Stands inst.now }
     ensures block { OnOk result (text.new.blocks ≡ text.old.blocks ++ line_block lowering (setting_of on.now) pc ∷ []) }
     ensures temporaries { OnOk result (text.new.temporaries ≡ max text.old.temporaries (lowered_need inst.now.transfers)) }
-    ensures onward { IfOk result (λ next. next ≡ Some inst.now.next) }
+    ensures onward { IfOk result (λ next. next ≡ behind inst.now) }
 {
     let mut stmts = lower(alloc, on.machine, inst, pc)?;
     push_service(
@@ -127,21 +128,12 @@ fn push_instruction(
         inst.transfers.as_slice(),
     )?;
     push_stops(alloc, &mut stmts, pc, inst.transfers.as_slice())?;
+    let next = address_behind(inst);
     text.blocks.push(CBlock {
         label: sequential(pc),
         stmts,
-        end: End::Goto(sequential(inst.next)),
+        end: block_end(pc, next),
     })?;
     text.temporaries = text.temporaries.max(temporaries(inst));
-    Ok(Some(inst.next))
-}
-
-/// The point of an address that is reached in sequence.
-fn sequential(pc: u32) -> Point
-    ensures { result ≡ point_at pc }
-{
-    Point {
-        pc,
-        slot: Slot::Seq,
-    }
+    Ok(next)
 }
