@@ -6,11 +6,13 @@ ghost use Rattle.c_emit.specs.SmallText.{TextExitsWithThree, SmallBound};
 
 mod cells;
 mod control;
+mod ends;
 mod header;
 mod line;
 mod service;
 mod text;
 
+pub use ends::line_ends;
 pub use text::line_program;
 
 /// A C text of a program of three instructions, run by the definitions of the C text alone.

@@ -1,0 +1,41 @@
+//! Whether a line ends within some instructions, without its text.
+ghost use Rattle.std.specs.Prelude.{◌≡◌, IfOk};
+ghost use Rattle.points.specs.Machine.{standing};
+ghost use Rattle.c_emit.specs.Emitted.{setting_of, IsSoundBundle};
+ghost use Rattle.c_emit.specs.Line.{ends_within, onward};
+
+use crate::control::address_behind;
+use decode::{Bundle, Found, inst_at};
+use rtl_core::try_ground;
+use std::alloc::{AllocError, Global};
+
+/// Whether the line from `entry` on has at most `most` instructions. An error is a want of memory.
+#[tactic(auto, using(crate::proofs::LineLaws::no_more_ends, crate::proofs::LineLaws::ends_ended))]
+pub fn line_ends(alloc: Global, on: &Bundle, most: usize, entry: u32) -> Result<bool, AllocError>
+    requires { IsSoundBundle on.now }
+    ensures { IfOk result (λ ended. ended ≡ ends_within (setting_of on.now) most entry) }
+{
+    let mut place = Some(entry);
+    for _ in 0..most {
+        let Some(pc) = place else {
+            return Ok(true);
+        };
+        place = next_address(alloc, on, pc)?;
+    }
+    Ok(place.is_none())
+}
+
+/// The address behind that of an instruction, where the line goes on.
+#[tactic(auto, using(crate::proofs::LineLaws::stands_outside, crate::proofs::LineLaws::stands_illegal, crate::proofs::LineLaws::stands_ground))]
+fn next_address(alloc: Global, on: &Bundle, pc: u32) -> Result<Option<u32>, AllocError>
+    requires { IsSoundBundle on.now }
+    ensures { IfOk result (λ next. next ≡ onward (standing (setting_of on.now) pc)) }
+{
+    match inst_at(on, pc) {
+        Found::Outside | Found::Illegal => Ok(None),
+        Found::Inst(found) => match try_ground(alloc, on.machine, &found.inst, pc, found.len)? {
+            None => Ok(None),
+            Some(inst) => Ok(address_behind(&inst)),
+        },
+    }
+}
