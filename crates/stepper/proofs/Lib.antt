@@ -1,0 +1,5 @@
+pub mod Branches
+pub mod Serving
+pub mod FirstCells
+pub mod Stretches
+pub mod Going
