@@ -1,14 +1,12 @@
 -- What is built of files, and what is done with them.
-use Rattle.std.proofs.Common.{◌≡◌, ℕ, zero, suc, ◌+◌, ◌<◌, List, [], ◌∷◌, ◌++◌, length, map, take, get_or, Option, None, true, false, ◌≤◌, ◌-◌, ◌^◌, refl, sym, ap, ◌∙◌, subst, arith}
-use Rattle.std.specs.Prelude.{is_some, All, codes}
-use Rattle.std.specs.Str.{bytes_eq}
+use Rattle.std.proofs.Common.{◌≡◌, ℕ, ◌+◌, ◌<◌, List, [], ◌∷◌, ◌++◌, length, map, take, get_or, Option, None, false, ◌≤◌, ◌-◌, ◌^◌, refl, sym, ap, ◌∙◌, subst, arith}
+use Rattle.std.specs.Prelude.{is_some, All, IfErr, Result, Ok, Err}
 use Rattle.std.proofs.lemmas.List.Elements.{All-nil, All-cons, All-head, All-tail}
 use Rattle.rtl_core.specs.declared.encodings.Encodings.{Encodings}
 use Rattle.points.specs.Machine.{Setting}
 use Rattle.load_image.specs.declared.image.Image.{Image}
 use Rattle.c_lang.specs.declared.tree.Program.{Program}
 use Rattle.descriptions.specs.declared.described.Described.{Described}
-use Rattle.edge_io.specs.Files.{Files, Names}
 use Rattle.edge_io.specs.Output.{Output}
 use Rattle.elf32.specs.declared.elf.Segment.{Segment}
 use Rattle.load_image.specs.Mapped.{segment_part}
@@ -17,11 +15,10 @@ use Rattle.c_lang.specs.declared.tree.CSeg.{CSeg}
 use Rattle.c_emit.specs.Emitted.{AreShortSegments, IsTranslation, TranslatesLines}
 use Rattle.c_emit.specs.Line.{segment_of, ends_within}
 use Rattle.uqbt_top.specs.declared.outcome.Outcome.{Outcome}
-use Rattle.uqbt_top.specs.declared.outcome.Outcome.TheVariants.{Done, Usage, Description, Executable, FileTooLong, NoMemory, WriteFault, ReadFault}
-use Rattle.uqbt_top.specs.Wanted.{AreFiles}
-use Rattle.uqbt_top.specs.Command.{Check, three_files}
-use Rattle.uqbt_top.specs.Built.{Descriptions, AreRefused, IsRefused, IsReady, setting_with, parts_of, most_points}
-use Rattle.uqbt_top.specs.Causes.{of_check, of_translate, CheckRead, TranslateRead, CommandCaused, Caused}
+use Rattle.uqbt_top.specs.declared.outcome.Outcome.TheVariants.{Done, Ran, Spent, Usage, Description, Executable, InputTooLong, FileTooLong, NoMemory, WriteFault, ReadFault}
+use Rattle.uqbt_top.specs.declared.outcome.ExeFault.TheVariants.{Elf as InElf, AreaOverlap, TooLarge}
+use Rattle.uqbt_top.specs.Built.{Descriptions, AreOf, AreRefused, IsImageOf, IsLong, IsRefused, IsReady, setting_with, parts_of, most_points}
+use Rattle.uqbt_top.specs.Causes.{of_check, with_exe, CheckRead, TranslateRead}
 
 -- ---- segments
 
@@ -60,33 +57,27 @@ pub check_refused : (texts : List (List ℕ)) (t : Descriptions) (o : Outcome) �
 check_refused texts t (Description file fault) is r out = record { texts = t; whole = is; did = r; kept = refl }
 check_refused texts t NoMemory is r out = record { texts = t; whole = is; did = tt; kept = refl }
 check_refused texts t Done is r out = absurd r
+check_refused texts t (Ran stop) is r out = absurd r
+check_refused texts t Spent is r out = absurd r
+check_refused texts t InputTooLong is r out = absurd r
 check_refused texts t Usage is r out = absurd r
 check_refused texts t (Executable fault) is r out = absurd r
 check_refused texts t (FileTooLong file) is r out = absurd r
 check_refused texts t WriteFault is r out = absurd r
 check_refused texts t ReadFault is r out = absurd r
 
--- what was found is why the command answers
-pub check_caused : (told : Option Files) (sled ssl conv : List ℕ) (old new : Names) (bytes : List (List ℕ)) (o : Outcome) → AreFiles told (three_files sled ssl conv) bytes → new ≡ old
-    → ((out : Output) → CheckRead bytes out out o) → (out : Output) → CommandCaused told (Check sled ssl conv) old new out out o
-check_caused told sled ssl conv old new bytes Done read kept did out = record { kept = kept; bytes = bytes; were_read = read; did = did out }
-check_caused told sled ssl conv old new bytes (Description file fault) read kept did out = record { kept = kept; bytes = bytes; were_read = read; did = did out }
-check_caused told sled ssl conv old new bytes NoMemory read kept did out = kept
-check_caused told sled ssl conv old new bytes Usage read kept did out = absurd (did out).did
-check_caused told sled ssl conv old new bytes (Executable fault) read kept did out = absurd (did out).did
-check_caused told sled ssl conv old new bytes (FileTooLong file) read kept did out = absurd (did out).did
-check_caused told sled ssl conv old new bytes WriteFault read kept did out = absurd (did out).did
-check_caused told sled ssl conv old new bytes ReadFault read kept did out = absurd (did out).did
-
 -- ---- translations
 
 -- files of which nothing is translated
-pub translate_refused : (texts : List (List ℕ)) (t : Descriptions) (exe : List ℕ) (o : Outcome) (out : Output) → texts ≡ of_translate t exe → IsRefused t exe o → TranslateRead texts out out o
+pub translate_refused : (texts : List (List ℕ)) (t : Descriptions) (exe : List ℕ) (o : Outcome) (out : Output) → texts ≡ with_exe t exe → IsRefused t exe o → TranslateRead texts out out o
 translate_refused texts t exe (Description file fault) out is r = record { texts = t; exe = exe; whole = is; did = r }
 translate_refused texts t exe (Executable fault) out is r = record { texts = t; exe = exe; whole = is; did = r }
 translate_refused texts t exe NoMemory out is r = record { texts = t; exe = exe; whole = is; did = tt }
 translate_refused texts t exe Done out is r = absurd r
 translate_refused texts t exe Usage out is r = absurd r
+translate_refused texts t exe (Ran stop) out is r = absurd r
+translate_refused texts t exe Spent out is r = absurd r
+translate_refused texts t exe InputTooLong out is r = absurd r
 translate_refused texts t exe (FileTooLong file) out is r = absurd r
 translate_refused texts t exe WriteFault out is r = absurd r
 translate_refused texts t exe ReadFault out is r = absurd r
@@ -113,9 +104,24 @@ pub is_long : (d : Described) (i : Image) (e : Encodings) (found : Option Progra
     → ends_within (setting_with d i) most_points i.entry ≡ false
 is_long d i e found same long none = ap (λ x. ends_within (setting_by x d i) most_points i.entry) (sym same) ∙ sym long ∙ ap is_some none
 
--- ---- words
+-- why an image has no program is why its executable is refused
+pub is_refused : (t : Descriptions) (exe : List ℕ) (d : Described) (i : Image) (o : Outcome) → AreOf t d → IsImageOf d exe i → IsLong d i o → IsRefused t exe o
+is_refused t exe d i (Executable (TooLarge points)) of loaded long =
+    record { described = d; of = of; first = record { image = i; loaded = loaded; long = long.1; told = long.0 } }
+is_refused t exe d i (Executable (InElf fault)) of loaded long = absurd long
+is_refused t exe d i (Executable (AreaOverlap index)) of loaded long = absurd long
+is_refused t exe d i NoMemory of loaded long = tt
+is_refused t exe d i Done of loaded long = absurd long
+is_refused t exe d i (Ran stop) of loaded long = absurd long
+is_refused t exe d i Spent of loaded long = absurd long
+is_refused t exe d i Usage of loaded long = absurd long
+is_refused t exe d i (Description file fault) of loaded long = absurd long
+is_refused t exe d i InputTooLong of loaded long = absurd long
+is_refused t exe d i (FileTooLong file) of loaded long = absurd long
+is_refused t exe d i WriteFault of loaded long = absurd long
+is_refused t exe d i ReadFault of loaded long = absurd long
 
--- four words of which the first is `check`
-pub checked_words : (told : Option Files) (words : List (List ℕ)) (word sled ssl conv : List ℕ) (old new : Names) (out : Output) (o : Outcome) → words ≡ word ∷ sled ∷ ssl ∷ conv ∷ [] → bytes_eq word (codes "check") ≡ true
-    → CommandCaused told (Check sled ssl conv) old new out out o → Caused told words old new out out o
-checked_words told words word sled ssl conv old new out o is check did = rw (is, check) did
+-- from one fact of an error to another
+pub if_err : {T E : Type 0} (r : Result T E) (P Q : E → Type 0) → ((e : E) → P e → Q e) → IfErr r P → IfErr r Q
+if_err (Ok x) P Q more holds = tt
+if_err (Err e) P Q more holds = more e holds

@@ -2,3 +2,7 @@ pub mod Files
 pub mod Pieces
 pub mod Longer
 pub mod BuiltLaws
+pub mod RunLaws
+pub mod Answered
+pub mod Feeding
+pub mod Digits

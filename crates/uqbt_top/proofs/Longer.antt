@@ -1,17 +1,16 @@
 -- The file that is told as too long is the first one over its limit.
-use Rattle.std.proofs.Common.{◌≡◌, ◌∙◌, ◌⊎◌, inl, inr, List, [], ◌∷◌, ◌++◌, ℕ, ◌<◌, refl, ap, sym, length, arith, length-append}
+use Rattle.std.proofs.Common.{◌≡◌, ◌∙◌, ◌⊎◌, inl, inr, List, [], ◌∷◌, ◌++◌, ℕ, ◌<◌, refl, ap, sym, subst, length, arith, length-append}
 use Rattle.std.specs.Prelude.{Option, Some, None, IfSome, IsSomeAnd, MatchOption}
 use Rattle.std.proofs.lemmas.Bool.{lt-ltb, le-ltb}
-use Rattle.edge_io.specs.Files.{Files, Names, IsFile, IsLonger}
-use Rattle.edge_io.specs.Output.{Output}
+use Rattle.edge_io.specs.Files.{Files, IsFile, IsLonger}
 use Rattle.uqbt_top.specs.Message.{limit_of}
 use Rattle.uqbt_top.specs.Wanted.{Wanted, AreFiles}
 use Rattle.uqbt_top.specs.Command.{Command, command_of, files_of}
-use Rattle.uqbt_top.specs.Causes.{AllRead, CommandCaused, Caused}
+use Rattle.uqbt_top.specs.Causes.{Around, AllRead, CommandCaused, Caused}
 use Rattle.uqbt_top.specs.Longest.{long_or, first_long, LongIsExact}
 use Rattle.uqbt_top.specs.declared.outcome.FileName.{FileName}
 use Rattle.uqbt_top.specs.declared.outcome.Outcome.{Outcome}
-use Rattle.uqbt_top.specs.declared.outcome.Outcome.TheVariants.{Done, Usage, Description, Executable, FileTooLong, NoMemory, WriteFault, ReadFault}
+use Rattle.uqbt_top.specs.declared.outcome.Outcome.TheVariants.{Done, Ran, Spent, Usage, Description, Executable, InputTooLong, FileTooLong, NoMemory, WriteFault, ReadFault}
 
 -- a file that is there and within its limit is passed
 passed_by : (files : Files) (w : Wanted) (bytes : List ℕ) (rest : Option FileName) → IsFile (Some files) w.name (limit_of w.file) bytes
@@ -56,41 +55,47 @@ grows names name same = omega (arith, ap length same, length-append names (name 
 abbrev Told : Outcome → FileName → Type 0
 Told e file = (e ≡ FileTooLong file) ⊎ (e ≡ NoMemory)
 
-by_reading : (files : Files) (command : Command) (old new : Names) (out out' : Output) (e : Outcome) (file : FileName)
-    → AllRead (Some files) command old new out out' e → first_long files (files_of command) ≡ Some file → Told e file
-by_reading files command old new out out' e file did is =
-    absurd (none_is_some file (sym (none_long files (files_of command) did.bytes did.were_read) ∙ is))
+-- an answer behind all files
+by_reading : (files : Files) (command : Command) (a : Around) (e : Outcome) (file : FileName)
+    → a.told ≡ Some files → AllRead command a e → first_long files (files_of command) ≡ Some file → Told e file
+by_reading files command a e file told did is =
+    let read = subst (λ t. AreFiles t (files_of command) did.bytes) told did.were_read in
+    absurd (none_is_some file (sym (none_long files (files_of command) did.bytes read) ∙ is))
 
-by_answer : (files : Files) (command : Command) (old new : Names) (out out' : Output) (e : Outcome) (file : FileName)
-    → CommandCaused (Some files) command old new out out' e → first_long files (files_of command) ≡ Some file → new.failed ≡ old.failed → Told e file
-by_answer files command old new out out' Done file did is kept = by_reading files command old new out out' Done file did is
-by_answer files command old new out out' Usage file did is kept = absurd did
-by_answer files command old new out out' (FileTooLong f) file did is kept =
+by_answer : (files : Files) (command : Command) (a : Around) (e : Outcome) (file : FileName)
+    → a.told ≡ Some files → CommandCaused command a e → first_long files (files_of command) ≡ Some file → a.names'.failed ≡ a.names.failed → Told e file
+by_answer files command a Done file told did is kept = by_reading files command a Done file told did is
+by_answer files command a (Ran stop) file told did is kept = by_reading files command a (Ran stop) file told did is
+by_answer files command a Spent file told did is kept = by_reading files command a Spent file told did is
+by_answer files command a Usage file told did is kept = absurd did
+by_answer files command a (FileTooLong f) file told did is kept =
     let all = files_of command in
-    let due = did.due in
-    let found : first_long files all ≡ Some did.this.file =
-    ap (first_long files) due.whole ∙ first_behind files due.before due.texts did.this due.behind due.were_read did.did.1.longer in
-    inl (ap FileTooLong (did.did.0 ∙ same_file did.this.file file (sym found ∙ is)))
-by_answer files command old new out out' (Description f fault) file did is kept = by_reading files command old new out out' (Description f fault) file did is
-by_answer files command old new out out' (Executable fault) file did is kept = by_reading files command old new out out' (Executable fault) file did is
-by_answer files command old new out out' NoMemory file did is kept = inr refl
-by_answer files command old new out out' WriteFault file did is kept = by_reading files command old new out out' WriteFault file did is
-by_answer files command old new out out' ReadFault file did is kept =
-    absurd (grows old.failed did.this.name (sym did.did.failed ∙ kept))
+    let stop = did.0 in
+    let read = subst (λ t. AreFiles t stop.due.before stop.due.texts) told stop.due.were_read in
+    let longer = subst (λ t. IsLonger t stop.this.name (limit_of stop.this.file)) told stop.did.1.longer in
+    let found : first_long files all ≡ Some stop.this.file =
+    ap (first_long files) stop.due.whole ∙ first_behind files stop.due.before stop.due.texts stop.this stop.due.behind read longer in
+    inl (ap FileTooLong (stop.did.0 ∙ same_file stop.this.file file (sym found ∙ is)))
+by_answer files command a (Description f fault) file told did is kept = by_reading files command a (Description f fault) file told did is
+by_answer files command a (Executable fault) file told did is kept = by_reading files command a (Executable fault) file told did is
+by_answer files command a InputTooLong file told did is kept = by_reading files command a InputTooLong file told did is
+by_answer files command a NoMemory file told did is kept = inr refl
+by_answer files command a WriteFault file told did is kept = by_reading files command a WriteFault file told did is
+by_answer files command a ReadFault file told (inl files') is kept = absurd (grows a.names.failed files'.0.this.name (sym files'.0.did.failed ∙ kept))
+by_answer files command a ReadFault file told (inr all) is kept = by_reading files command a ReadFault file told all is
 
 if_some : {A : Type 0} (o : Option A) (P : A → Type 0) → ((x : A) → o ≡ Some x → P x) → IfSome o P
 if_some None P each = tt
 if_some (Some x) P each = each x refl
 
-by_form : (told : Option Files) (form : Option Command) (old new : Names) (out out' : Output) (e : Outcome)
-    → MatchOption form ((e ≡ Usage) × (new ≡ old)) (λ command. CommandCaused told command old new out out' e)
-    → IfSome told (λ files. IfSome form (λ command. IfSome (first_long files (files_of command)) (λ file. new.failed ≡ old.failed → Told e file)))
-by_form None form old new out out' e did = tt
-by_form (Some files) None old new out out' e did = tt
-by_form (Some files) (Some command) old new out out' e did =
-    if_some (first_long files (files_of command)) _ (λ file is. by_answer files command old new out out' e file did is)
+by_form : (told : Option Files) (form : Option Command) (a : Around) (e : Outcome) → a.told ≡ told
+    → MatchOption form ((e ≡ Usage) × (a.names' ≡ a.names) × (a.input' ≡ a.input)) (λ command. CommandCaused command a e)
+    → IfSome told (λ files. IfSome form (λ command. IfSome (first_long files (files_of command)) (λ file. a.names'.failed ≡ a.names.failed → Told e file)))
+by_form None form a e same did = tt
+by_form (Some files) None a e same did = tt
+by_form (Some files) (Some command) a e same did =
+    if_some (first_long files (files_of command)) _ (λ file is. by_answer files command a e file same did is)
 
 -- the causes of the answers say it
-pub exactly_long : (told : Option Files) (words : List (List ℕ)) (old new : Names) (out out' : Output) (e : Outcome)
-    → Caused told words old new out out' e → LongIsExact told words old new e
-exactly_long told words old new out out' e did = by_form told (command_of words) old new out out' e did
+pub exactly_long : (words : List (List ℕ)) (a : Around) (e : Outcome) → Caused words a e → LongIsExact a.told words a.names a.names' e
+exactly_long words a e did = by_form a.told (command_of words) a e refl did

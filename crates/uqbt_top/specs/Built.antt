@@ -1,5 +1,5 @@
 -- What is built of the files of `translate`, and why nothing is.
-use Rattle.std.specs.Prelude.{◌≡◌, ℕ, ◌≤◌, ◌-◌, ◌^◌, false, List, [], ◌∷◌, length, map, Ok, Err, Some, All}
+use Rattle.std.specs.Prelude.{◌≡◌, ℕ, ◌≤◌, ◌-◌, ◌^◌, false, List, length, map, Ok, Err, Some, All}
 use Rattle.rtl_core.specs.FirstMemory.{Part}
 use Rattle.points.specs.Machine.{Setting}
 use Rattle.decode.specs.At.{AreShort}
@@ -17,11 +17,11 @@ use Rattle.descriptions.specs.declared.described.Described.{Described}
 use Rattle.descriptions.specs.declared.fault.DescFault.{DescFault}
 use Rattle.descriptions.specs.Accepted.{Describe, IsSledFault, AreNoInstructions, AreNoConventions}
 use Rattle.uqbt_top.specs.declared.outcome.FileName.{FileName}
-use Rattle.uqbt_top.specs.declared.outcome.FileName.TheVariants.{Sled, Ssl, Conv, Exe, Prog}
+use Rattle.uqbt_top.specs.declared.outcome.FileName.TheVariants.{Sled, Ssl, Conv}
 use Rattle.uqbt_top.specs.declared.outcome.ExeFault.{ExeFault}
 use Rattle.uqbt_top.specs.declared.outcome.ExeFault.TheVariants.{Elf as InElf, AreaOverlap, TooLarge}
 use Rattle.uqbt_top.specs.declared.outcome.Outcome.{Outcome}
-use Rattle.uqbt_top.specs.declared.outcome.Outcome.TheVariants.{Done, Usage, Description, Executable, FileTooLong, NoMemory, WriteFault, ReadFault}
+use Rattle.uqbt_top.specs.declared.outcome.Outcome.TheVariants.{Description, Executable, NoMemory}
 
 -- ---- descriptions
 

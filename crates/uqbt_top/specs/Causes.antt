@@ -1,17 +1,18 @@
 -- When each answer comes, and what was written.
-use Rattle.std.specs.Prelude.{◌≡◌, ℕ, List, [], ◌∷◌, ◌++◌, Option, MatchOption, Result, Ok, Err}
+use Rattle.std.specs.Prelude.{◌≡◌, ◌⊎◌, ℕ, List, [], ◌∷◌, ◌++◌, Option, Some, MatchOption, Result, Ok, Err}
 use Rattle.edge_io.specs.Files.{Files, Names, IsLonger}
+use Rattle.edge_io.specs.Input.{Input}
 use Rattle.edge_io.specs.Output.{Output}
 use Rattle.c_lang.specs.declared.tree.Program.{Program}
 use Rattle.c_text.specs.Output.{TookText, TookPartOfText}
 use Rattle.descriptions.specs.declared.described.Described.{Described}
-use Rattle.uqbt_top.specs.declared.outcome.FileName.{FileName}
 use Rattle.uqbt_top.specs.declared.outcome.Outcome.{Outcome}
 use Rattle.uqbt_top.specs.declared.outcome.Outcome.TheVariants.{Done, Usage, Description, Executable, FileTooLong, NoMemory, WriteFault, ReadFault}
 use Rattle.uqbt_top.specs.Message.{limit_of}
 use Rattle.uqbt_top.specs.Wanted.{Wanted, AreFiles, IsDue}
-use Rattle.uqbt_top.specs.Command.{Command, Translate, Check, command_of, files_of}
+use Rattle.uqbt_top.specs.Command.{Command, Translate, Run, Check, command_of, files_of}
 use Rattle.uqbt_top.specs.Built.{Descriptions, AreOf, IsFirstFault, IsUnusable, Translates}
+use Rattle.uqbt_top.specs.Running.{RunDid, RunKeepsInput, RunKeepsOut}
 
 -- one name more failed
 pub record NewFailed (old new : Names) (name : List ℕ) : Type 0 where
@@ -41,8 +42,8 @@ pub record ReadStopped (told : Option Files) (all : List Wanted) (old new : Name
 abbrev pub of_check : Descriptions → List (List ℕ)
 of_check t = t.sled ∷ t.ssl ∷ t.conv ∷ []
 
-abbrev pub of_translate : Descriptions → List ℕ → List (List ℕ)
-of_translate t exe = t.sled ∷ t.ssl ∷ t.conv ∷ exe ∷ []
+abbrev pub with_exe : Descriptions → List ℕ → List (List ℕ)
+with_exe t exe = t.sled ∷ t.ssl ∷ t.conv ∷ exe ∷ []
 
 -- the sink took a text of a translation of the files
 pub record Translated (t : Descriptions) (exe : List ℕ) (out out' : Output) : Type 0 where
@@ -81,7 +82,7 @@ CheckDid t _ = ⊥
 pub record TranslateRead (bytes : List (List ℕ)) (out out' : Output) (outcome : Outcome) : Type 0 where
   pub texts : Descriptions
   pub exe : List ℕ
-  pub whole : bytes ≡ of_translate texts exe
+  pub whole : bytes ≡ with_exe texts exe
   pub did : TranslateDid texts exe out out' outcome
 
 -- the same of `check`, which writes nothing
@@ -91,36 +92,74 @@ pub record CheckRead (bytes : List (List ℕ)) (out out' : Output) (outcome : Ou
   pub did : CheckDid texts outcome
   pub kept : out' ≡ out
 
--- what a command did with its files' bytes
-abbrev pub Did : Command → List (List ℕ) → Output → Output → Outcome → Type 0
-Did (Translate sled ssl conv exe) bytes out out' outcome = TranslateRead bytes out out' outcome
-Did (Check sled ssl conv) bytes out out' outcome = CheckRead bytes out out' outcome
+-- the same of `run`
+pub record RunRead (bytes : List (List ℕ)) (steps : ℕ) (input input' : Input) (out out' : Output) (outcome : Outcome) : Type 0 where
+  pub texts : Descriptions
+  pub exe : List ℕ
+  pub whole : bytes ≡ with_exe texts exe
+  pub did : RunDid texts exe steps input input' out out' outcome
+
+-- what a command did with its files' bytes; only `run` takes input
+abbrev pub Did : Command → List (List ℕ) → Input → Input → Output → Output → Outcome → Type 0
+Did (Translate sled ssl conv exe) bytes input input' out out' outcome = TranslateRead bytes out out' outcome × (input' ≡ input)
+Did (Run sled ssl conv exe steps) bytes input input' out out' outcome = RunRead bytes steps input input' out out' outcome
+Did (Check sled ssl conv) bytes input input' out out' outcome = CheckRead bytes out out' outcome × (input' ≡ input)
+
+-- what the files, the input and the output show before and after a call
+pub record Around : Type 0 where
+  pub told : Option Files
+  pub names : Names
+  pub names' : Names
+  pub input : Input
+  pub input' : Input
+  pub out : Output
+  pub out' : Output
 
 -- all files are there and within their limits, no name is new, and this was done with their bytes
-pub record AllRead (told : Option Files) (command : Command) (old new : Names) (out out' : Output) (outcome : Outcome) : Type 0 where
-  pub kept : new ≡ old
+pub record AllRead (command : Command) (a : Around) (outcome : Outcome) : Type 0 where
+  pub kept : a.names' ≡ a.names
   pub bytes : List (List ℕ)
-  pub were_read : AreFiles told (files_of command) bytes
-  pub did : Did command bytes out out' outcome
+  pub were_read : AreFiles a.told (files_of command) bytes
+  pub did : Did command bytes a.input a.input' a.out a.out' outcome
+
+-- one of the files wasn't given, and no input was taken
+abbrev pub FilesStopped : Command → Around → Outcome → Type 0
+FilesStopped command a outcome = ReadStopped a.told (files_of command) a.names a.names' outcome × (a.input' ≡ a.input)
+
+-- memory ran out before all files were there
+abbrev pub RanOutBefore : Around → Type 0
+RanOutBefore a = (a.names' ≡ a.names) × (a.input' ≡ a.input) × (a.out' ≡ a.out)
 
 -- what a command did, by its answer
-abbrev pub CommandCaused : Option Files → Command → Names → Names → Output → Output → Outcome → Type 0
-CommandCaused told command old new out out' Usage = ⊥
-CommandCaused told command old new out out' (FileTooLong file) = ReadStopped told (files_of command) old new (FileTooLong file)
-CommandCaused told command old new out out' ReadFault = ReadStopped told (files_of command) old new ReadFault
-CommandCaused told command old new out out' NoMemory = new ≡ old
-CommandCaused told command old new out out' outcome = AllRead told command old new out out' outcome
+abbrev pub CommandCaused : Command → Around → Outcome → Type 0
+CommandCaused command a Usage = ⊥
+CommandCaused command a (FileTooLong file) = FilesStopped command a (FileTooLong file)
+CommandCaused command a ReadFault = FilesStopped command a ReadFault ⊎ AllRead command a ReadFault
+CommandCaused command a NoMemory = RanOutBefore a ⊎ AllRead command a NoMemory
+CommandCaused command a outcome = AllRead command a outcome
 
 -- what the program did, by its words and its answer: Usage exactly for words of no form
-abbrev pub Caused : Option Files → List (List ℕ) → Names → Names → Output → Output → Outcome → Type 0
-Caused told words old new out out' outcome =
-    MatchOption (command_of words) ((outcome ≡ Usage) × (new ≡ old)) (λ command. CommandCaused told command old new out out' outcome)
+abbrev pub Caused : List (List ℕ) → Around → Outcome → Type 0
+Caused words a outcome =
+    MatchOption (command_of words) ((outcome ≡ Usage) × (a.names' ≡ a.names) × (a.input' ≡ a.input)) (λ command. CommandCaused command a outcome)
 
--- a fact for the answers before the writing
-abbrev pub OnRefusal : Outcome → Type 0 → Type 0
-OnRefusal Done kept = Unit {0}
-OnRefusal WriteFault kept = Unit {0}
-OnRefusal _ kept = kept
+-- ---- what stays
+
+-- a fact of `translate` and `check` for the answers before the output
+abbrev pub KeepsOut : Outcome → Type 0 → Type 0
+KeepsOut Done kept = Unit {0}
+KeepsOut WriteFault kept = Unit {0}
+KeepsOut _ kept = kept
+
+-- a fact for the answers before the output
+abbrev pub OnRefusal : Option Command → Outcome → Type 0 → Type 0
+OnRefusal (Some (Run sled ssl conv exe steps)) outcome kept = RunKeepsOut outcome kept
+OnRefusal _ outcome kept = KeepsOut outcome kept
+
+-- a fact for the answers before the input; only `run` takes any
+abbrev pub OnNoInput : Option Command → Outcome → Type 0 → Type 0
+OnNoInput (Some (Run sled ssl conv exe steps)) outcome kept = RunKeepsInput outcome kept
+OnNoInput _ outcome kept = kept
 
 -- what a private call answers, as an answer of the program
 abbrev pub outcome_of : {T : Type 0} → Result T Outcome → Outcome

@@ -1,7 +1,10 @@
 pub mod Told
 pub mod Message
 pub mod Wanted
+pub mod Steps
 pub mod Command
 pub mod Built
+pub mod Running
 pub mod Causes
 pub mod Longest
+pub mod Fed

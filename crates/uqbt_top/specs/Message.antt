@@ -1,14 +1,35 @@
 -- The number and the line of each answer, and the limits of the files.
-use Rattle.std.specs.Prelude.{ℕ, List, [], ◌∷◌, ◌++◌, codes}
+use Rattle.std.specs.Prelude.{ℕ, ◌%◌, List, [], ◌∷◌, ◌++◌, codes}
 use Rattle.uqbt_top.specs.declared.outcome.FileName.{FileName}
 use Rattle.uqbt_top.specs.declared.outcome.FileName.TheVariants.{Sled, Ssl, Conv, Exe, Prog}
 use Rattle.uqbt_top.specs.declared.outcome.Outcome.{Outcome}
-use Rattle.uqbt_top.specs.declared.outcome.Outcome.TheVariants.{Done, Usage, Description, Executable, FileTooLong, NoMemory, WriteFault, ReadFault}
-use Rattle.uqbt_top.specs.Told.{desc_words, exe_words}
+use Rattle.uqbt_top.specs.declared.outcome.Outcome.TheVariants.{Done, Ran, Spent, Usage, Description, Executable, InputTooLong, FileTooLong, NoMemory, WriteFault, ReadFault}
+use Rattle.rtl_core.specs.declared.stop.Stop.{Stop}
+use Rattle.rtl_core.specs.declared.stop.Stop.TheVariants as stop
+use Rattle.uqbt_top.specs.Told.{desc_words, exe_words, stop_words}
+
+-- the status of a stop: that of an exit modulo 256, else 32 and the number of the stop
+abbrev pub stop_status : Stop → ℕ
+stop_status (stop.Exit status) = status % 256
+stop_status (stop.Illegal a) = 33
+stop_status (stop.MemoryFault a) = 34
+stop_status (stop.Misaligned a) = 35
+stop_status (stop.Divide a) = 36
+stop_status (stop.Trap n) = 37
+stop_status stop.WindowFull = 38
+stop_status stop.WindowEmpty = 39
+stop_status (stop.Undiscovered a) = 40
+stop_status (stop.ReturnMismatch a) = 41
+stop_status stop.CallDepth = 42
+stop_status (stop.Couple a) = 43
+stop_status (stop.Undefined item) = 44
 
 -- the status that the program ends with
 abbrev pub status_of : Outcome → ℕ
 status_of Done = 0
+status_of (Ran s) = stop_status s
+status_of Spent = 75
+status_of InputTooLong = 68
 status_of Usage = 64
 status_of (Description file fault) = 65
 status_of (Executable fault) = 67
@@ -28,6 +49,9 @@ file_word Prog = codes "prog"
 -- the words for an answer
 abbrev pub said_of : Outcome → List ℕ
 said_of Done = codes "done"
+said_of (Ran s) = codes "ran " ++ stop_words s
+said_of Spent = codes "spent"
+said_of InputTooLong = codes "input-too-long"
 said_of Usage = codes "usage"
 said_of (Description file fault) = codes "description " ++ file_word file ++ codes " " ++ desc_words fault
 said_of (Executable fault) = codes "executable " ++ exe_words fault

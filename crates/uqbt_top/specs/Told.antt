@@ -1,5 +1,5 @@
 -- How faults are told: a word, and the numbers behind it.
-use Rattle.std.specs.Prelude.{ℕ, List, [], ◌∷◌, ◌++◌, codes, decimal}
+use Rattle.std.specs.Prelude.{ℕ, List, [], ◌++◌, codes, decimal}
 use Rattle.c_text.specs.Words.{hex}
 use Rattle.text_lex.specs.declared.token.LexFault.{LexFault}
 use Rattle.text_lex.specs.declared.token.LexFault.TheVariants as lexical
@@ -13,6 +13,8 @@ use Rattle.descriptions.specs.declared.fault.DescFault.{DescFault}
 use Rattle.descriptions.specs.declared.fault.DescFault.TheVariants.{Lex, BadLine, Sled, Ssl, Conv}
 use Rattle.elf32.specs.declared.fault.ElfFault.{ElfFault}
 use Rattle.elf32.specs.declared.fault.ElfFault.TheVariants as elf
+use Rattle.rtl_core.specs.declared.stop.Stop.{Stop}
+use Rattle.rtl_core.specs.declared.stop.Stop.TheVariants as stop
 use Rattle.uqbt_top.specs.declared.outcome.ExeFault.{ExeFault}
 use Rattle.uqbt_top.specs.declared.outcome.ExeFault.TheVariants.{Elf, AreaOverlap, TooLarge}
 use Rattle.uqbt_top.specs.declared.told.Told.{Told}
@@ -23,7 +25,7 @@ use Rattle.uqbt_top.specs.declared.told.Numbers.TheVariants.{Nothing, One, Three
 abbrev pub behind : ℕ → List ℕ
 behind n = codes " " ++ decimal n
 
--- a word alone, with a number, and with three
+-- a word alone, with a number, with three, and with an address
 abbrev pub said : List ℕ → List ℕ
 said word = word
 
@@ -32,6 +34,9 @@ said_with word n = word ++ behind n
 
 abbrev pub said_widths : List ℕ → ℕ → ℕ → ℕ → List ℕ
 said_widths word n left right = word ++ (behind n ++ (behind left ++ behind right))
+
+abbrev pub said_at : List ℕ → ℕ → List ℕ
+said_at word a = word ++ (codes " 0x" ++ hex a)
 
 -- ---- descriptions
 
@@ -96,13 +101,30 @@ elf_words (elf.SegmentRange n) = said_with (codes "segment-range") n
 elf_words (elf.SegmentOverlap n) = said_with (codes "segment-overlap") n
 elf_words elf.NoLoad = said (codes "no-load")
 elf_words (elf.ImageTooLarge n) = said_with (codes "image-too-large") n
-elf_words (elf.EntryOutside a) = codes "entry-outside" ++ (codes " 0x" ++ hex a)
+elf_words (elf.EntryOutside a) = said_at (codes "entry-outside") a
 elf_words elf.NoMemory = said (codes "no-memory")
 
 abbrev pub exe_words : ExeFault → List ℕ
 exe_words (Elf fault) = elf_words fault
 exe_words (AreaOverlap n) = said_with (codes "area-overlap") n
 exe_words (TooLarge n) = said_with (codes "too-large") n
+
+-- ---- stops
+
+abbrev pub stop_words : Stop → List ℕ
+stop_words (stop.Exit status) = said_with (codes "exit") status
+stop_words (stop.Illegal a) = said_at (codes "illegal") a
+stop_words (stop.MemoryFault a) = said_at (codes "memory") a
+stop_words (stop.Misaligned a) = said_at (codes "misaligned") a
+stop_words (stop.Divide a) = said_at (codes "divide") a
+stop_words (stop.Trap n) = said_with (codes "trap") n
+stop_words stop.WindowFull = said (codes "window-full")
+stop_words stop.WindowEmpty = said (codes "window-empty")
+stop_words (stop.Undiscovered a) = said_at (codes "undiscovered") a
+stop_words (stop.ReturnMismatch a) = said_at (codes "return-mismatch") a
+stop_words stop.CallDepth = said (codes "call-depth")
+stop_words (stop.Couple a) = said_at (codes "couple") a
+stop_words (stop.Undefined item) = said_with (codes "undefined") item
 
 -- ---- as the code keeps them
 

@@ -5,6 +5,7 @@ ghost use Rattle.c_emit.specs.Emitted.{IsTranslation};
 ghost use Rattle.c_emit.specs.Line.{segment_of};
 ghost use Rattle.load_image.specs.Mapped.{segment_part};
 ghost use Rattle.uqbt_top.specs.Built.{AreOf, AreRefused, IsExeFault, IsImageOf, IsLong, IsReady, IsRefused, IsRefusedExe, Translates, parts_of, setting_with};
+ghost use Rattle.uqbt_top.specs.Running.{HasMemory};
 
 use crate::{ExeFault, FileName, Outcome};
 use c_emit::line_program;
@@ -18,7 +19,9 @@ use sqlite_items::Items;
 use std::alloc::{AllocError, Global};
 
 /// The most points of a program.
-const MOST_POINTS: usize = 131_072;
+pub const MOST_POINTS: usize = 131_072;
+/// What tells an executable with more points.
+pub const TOO_LARGE: Outcome = Outcome::Executable(ExeFault::TooLarge { points: 131_073 });
 
 /// The machine that three texts describe.
 pub fn described(alloc: Global, sled: &[u8], ssl: &[u8], conv: &[u8]) -> Result<Described, Outcome>
@@ -52,6 +55,7 @@ pub fn loaded(alloc: Global, exe: &[u8], on: &Described) -> Result<Image, Outcom
     requires { AreSoundTogether on.now.encodings on.now.named.machine on.now.conv }
     ensures image { IfOk result (λ image. IsImageOf on.now exe.now image) }
     ensures ready { IfOk result (λ image. IsReady image) }
+    ensures memory { IfOk result (λ image. HasMemory on.now image) }
     ensures refused { IfErr result (λ o. IsRefusedExe (IsExeFault on.now exe.now) o) }
 {
     let elf = match read_elf(alloc, exe, &on.conv, on.named.machine.order) {
@@ -101,7 +105,7 @@ pub fn program_of(alloc: Global, on: &Described, image: &Image) -> Result<Progra
     let segments = segments_of(alloc, image.segments.as_slice())?;
     match line_program(alloc, &bundle, segments, MOST_POINTS, image.entry)? {
         Some(program) => Ok(program),
-        None => Err(Outcome::Executable(ExeFault::TooLarge { points: 131_073 })),
+        None => Err(TOO_LARGE),
     }
 }
 

@@ -6,6 +6,8 @@ mod built;
 mod message;
 mod outcome;
 mod reading;
+mod running;
+mod steps;
 mod told;
 mod top;
 
@@ -13,5 +15,7 @@ pub use descriptions::DescFault;
 pub use outcome::{ExeFault, FileName, Outcome};
 pub use top::uqbt_main;
 
+#[cfg(test)]
+mod run_tests;
 #[cfg(test)]
 mod tests;

@@ -4,7 +4,7 @@ ghost use Rattle.edge_io.specs.Output.{TookFront};
 ghost use Rattle.uqbt_top.specs.Message.{message_of, joined};
 ghost use Rattle.uqbt_top.specs.Told.{told_words};
 
-use crate::told::{Numbers, Told, description, executable};
+use crate::told::{Numbers, Told, description, executable, stop};
 use crate::{FileName, Outcome};
 use c_text::hex_of;
 use descriptions::DescFault;
@@ -23,7 +23,7 @@ fn put_pieces<M: Sink>(messages: &mut M, pieces: &[&[u8]])
 }
 
 // Puts a front, a blank, what is told, and a line feed.
-fn tell_fault<M: Sink>(messages: &mut M, front: &'static [u8], told: &Told)
+fn tell_words<M: Sink>(messages: &mut M, front: &'static [u8], told: &Told)
     ensures { TookFront (M.output messages.old) (M.output messages.new) (front.now ++ (told_words told.now ++ 10 ∷ [])) }
 {
     match told.numbers {
@@ -56,11 +56,11 @@ fn tell_description<M: Sink>(messages: &mut M, file: FileName, fault: &DescFault
 {
     let told = description(fault);
     match file {
-        FileName::Sled => tell_fault(messages, b"uqbt: description sled ", &told),
-        FileName::Ssl => tell_fault(messages, b"uqbt: description ssl ", &told),
-        FileName::Conv => tell_fault(messages, b"uqbt: description conv ", &told),
-        FileName::Exe => tell_fault(messages, b"uqbt: description exe ", &told),
-        FileName::Prog => tell_fault(messages, b"uqbt: description prog ", &told),
+        FileName::Sled => tell_words(messages, b"uqbt: description sled ", &told),
+        FileName::Ssl => tell_words(messages, b"uqbt: description ssl ", &told),
+        FileName::Conv => tell_words(messages, b"uqbt: description conv ", &told),
+        FileName::Exe => tell_words(messages, b"uqbt: description exe ", &told),
+        FileName::Prog => tell_words(messages, b"uqbt: description prog ", &told),
     }
 }
 
@@ -70,11 +70,14 @@ pub fn tell<M: Sink>(messages: &mut M, outcome: &Outcome)
 {
     match outcome {
         Outcome::Done => put_pieces(messages, &[b"uqbt: done\n"]),
+        Outcome::Ran(end) => tell_words(messages, b"uqbt: ran ", &stop(end)),
+        Outcome::Spent => put_pieces(messages, &[b"uqbt: spent\n"]),
         Outcome::Usage => put_pieces(messages, &[b"uqbt: usage\n"]),
         Outcome::Description { file, fault } => tell_description(messages, *file, fault),
         Outcome::Executable(fault) => {
-            tell_fault(messages, b"uqbt: executable ", &executable(fault));
+            tell_words(messages, b"uqbt: executable ", &executable(fault));
         }
+        Outcome::InputTooLong => put_pieces(messages, &[b"uqbt: input-too-long\n"]),
         Outcome::FileTooLong { file } => {
             put_pieces(messages, &[b"uqbt: file-too-long ", file.word(), b"\n"]);
         }

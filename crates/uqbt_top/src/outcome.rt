@@ -1,9 +1,10 @@
 // What a run of the program answers.
 ghost use Rattle.std.specs.Prelude.{◌≡◌};
-ghost use Rattle.uqbt_top.specs.Message.{status_of, file_word, limit_of};
+ghost use Rattle.uqbt_top.specs.Message.{status_of, stop_status, file_word, limit_of};
 
 use descriptions::DescFault;
 use elf32::ElfFault;
+use rtl_core::Stop;
 use std::alloc::{AllocError, AllocFailed};
 
 /// A file of a command.
@@ -43,6 +44,10 @@ pub enum ExeFault {
 pub enum Outcome {
     /// All was done.
     Done,
+    /// The machine stopped so within the steps.
+    Ran(Stop),
+    /// The machine did not stop within the steps.
+    Spent,
     /// The words have none of the forms of a command.
     Usage,
     /// The first file that has more bytes than its limit.
@@ -59,11 +64,13 @@ pub enum Outcome {
     },
     /// The first fault of the executable.
     Executable(ExeFault),
+    /// More than 16 MiB of input came.
+    InputTooLong,
     /// No memory was found.
     NoMemory,
     /// Standard output failed.
     WriteFault,
-    /// A file could not be read.
+    /// A file or the input could not be read.
     ReadFault,
 }
 
@@ -121,13 +128,36 @@ impl Outcome {
     {
         match self {
             Outcome::Done => 0,
+            Outcome::Ran(stop) => stop_status(stop),
             Outcome::Usage => 64,
             Outcome::Description { .. } => 65,
             Outcome::Executable(_) => 67,
-            Outcome::FileTooLong { .. } => 68,
+            Outcome::FileTooLong { .. } | Outcome::InputTooLong => 68,
             Outcome::NoMemory => 71,
             Outcome::WriteFault => 73,
             Outcome::ReadFault => 74,
+            Outcome::Spent => 75,
         }
+    }
+}
+
+/// The status of a run that stopped: the low byte of an exit's own, and 32 and more for the other stops.
+fn stop_status(stop: &Stop) -> u8
+    ensures { result ≡ stop_status stop.now }
+{
+    match stop {
+        Stop::Exit(status) => (status % 256) as u8,
+        Stop::Illegal(_) => 33,
+        Stop::MemoryFault(_) => 34,
+        Stop::Misaligned(_) => 35,
+        Stop::Divide(_) => 36,
+        Stop::Trap(_) => 37,
+        Stop::WindowFull => 38,
+        Stop::WindowEmpty => 39,
+        Stop::Undiscovered(_) => 40,
+        Stop::ReturnMismatch(_) => 41,
+        Stop::CallDepth => 42,
+        Stop::Couple(_) => 43,
+        Stop::Undefined(_) => 44,
     }
 }

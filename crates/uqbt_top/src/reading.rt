@@ -2,6 +2,7 @@
 ghost use Rattle.std.specs.Prelude.{◌≡◌, map, IfOk, IfErr, OnOk};
 ghost use Rattle.edge_io.specs.Files.{IsFile};
 ghost use Rattle.uqbt_top.specs.Message.{limit_of};
+ghost use Rattle.uqbt_top.specs.Command.{four_files};
 ghost use Rattle.uqbt_top.specs.Wanted.{wanted, AreFiles};
 ghost use Rattle.uqbt_top.specs.Causes.{FetchStopped, ReadStopped};
 
@@ -49,6 +50,15 @@ pub struct FileWord<'a> {
     pub name: &'a Word,
 }
 
+/// The file words of a command on an executable.
+#[derive(Clone, Copy)]
+pub struct FileWords<'a> {
+    pub sled: &'a Word,
+    pub ssl: &'a Word,
+    pub conv: &'a Word,
+    pub exe: &'a Word,
+}
+
 fn read_file<F: Store>(alloc: Global, files: &mut F, word: &FileWord<'_>) -> Result<Text, Outcome>
     ensures read { IfOk result (λ text. IsFile (F.files files.old) word.now.name.now (limit_of word.now.file) text) }
     ensures kept { OnOk result (F.names files.new ≡ F.names files.old) }
@@ -80,4 +90,36 @@ pub fn read_files<F: Store>(
         texts.push(text)?;
     }
     Ok(texts)
+}
+
+/// Reads three descriptions and an executable, up to the first that isn't given.
+pub fn read_four<F: Store>(
+    alloc: Global,
+    files: &mut F,
+    names: &FileWords<'_>,
+) -> Result<Vec<Text>, Outcome>
+    ensures read { IfOk result (λ texts. AreFiles (F.files files.old) (four_files names.now.sled.now names.now.ssl.now names.now.conv.now names.now.exe.now) texts.items) }
+    ensures kept { OnOk result (F.names files.new ≡ F.names files.old) }
+    ensures stopped { IfErr result (ReadStopped (F.files files.old) (four_files names.now.sled.now names.now.ssl.now names.now.conv.now names.now.exe.now) (F.names files.old) (F.names files.new)) }
+    ensures files { F.files files.new ≡ F.files files.old }
+{
+    let words = [
+        FileWord {
+            file: FileName::Sled,
+            name: names.sled,
+        },
+        FileWord {
+            file: FileName::Ssl,
+            name: names.ssl,
+        },
+        FileWord {
+            file: FileName::Conv,
+            name: names.conv,
+        },
+        FileWord {
+            file: FileName::Exe,
+            name: names.exe,
+        },
+    ];
+    read_files(alloc, files, &words)
 }

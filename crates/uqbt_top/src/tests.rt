@@ -17,19 +17,19 @@ const SSL: &[u8] =
 const CONV: &[u8] =
     b"elf 2\nstack r[14] 0xEF000000 0x00800000 256\nheap 0x20000000 0x01000000\nservice r[1] args r[8] r[9] r[10] result r[8] error C\nexit 1\nread 3\nwrite 4\nbrk 17\nerrors fault 14 descriptor 9 unknown 90";
 
-const EXE: &[u8] =
+pub const EXE: &[u8] =
     b"\x7FELF\x01\x02\x01\0\0\0\0\0\0\0\0\0\0\x02\0\x02\0\0\0\x01\0\x01\0\0\0\0\0\x34\0\0\0\0\0\0\0\0\0\x34\0\x20\0\x01\0\0\0\0\0\0\0\0\0\x01\0\0\0\x54\0\x01\0\0\0\x01\0\0\0\0\0\x0C\0\0\0\x0C\0\0\0\x05\0\0\0\x04\x82\x10\x20\x01\x90\x10\x20\x03\x91\xD0\x20\x10";
 
 // The four files of a call, by the words `a` to `d`.
 #[derive(Clone, Copy)]
-struct Texts<'a> {
-    sled: &'a [u8],
-    ssl: &'a [u8],
-    conv: &'a [u8],
-    exe: &'a [u8],
+pub struct Texts<'a> {
+    pub sled: &'a [u8],
+    pub ssl: &'a [u8],
+    pub conv: &'a [u8],
+    pub exe: &'a [u8],
 }
 
-const FINE: Texts<'static> = Texts {
+pub const FINE: Texts<'static> = Texts {
     sled: SLED,
     ssl: SSL,
     conv: CONV,
@@ -51,46 +51,54 @@ fn store(alloc: Global, texts: &Texts<'_>) -> Result<MemStore, Fail> {
     Ok(MemStore::new(alloc, files, Vec::new(alloc)))
 }
 
-fn words(alloc: Global, command: &[u8], letters: &[u8]) -> Result<Vec<Word>, Fail> {
+fn words(alloc: Global, command: &[u8], letters: &[u8], steps: &[u8]) -> Result<Vec<Word>, Fail> {
     let mut words = Vec::new(alloc);
     words.push(Word::new(alloc, command)?)?;
     for letter in letters {
         words.push(Word::new(alloc, &[*letter])?)?;
     }
+    if command == b"run".as_slice() {
+        words.push(Word::new(alloc, steps)?)?;
+    }
     Ok(words)
 }
 
-// The answer for a command whose file words are these letters.
-fn answer(
+// The answer for a command whose file words are these letters; a run has a number of steps behind them.
+pub fn answer(
     alloc: Global,
     command: &[u8],
     letters: &[u8],
+    steps: &[u8],
     texts: &Texts<'_>,
+    input: Vec<u8>,
     out: &mut MemSink,
     messages: &mut MemSink,
 ) -> Result<Outcome, Fail> {
-    let words = words(alloc, command, letters)?;
+    let words = words(alloc, command, letters, steps)?;
     let mut files = store(alloc, texts)?;
-    let mut input = MemSource::new(Vec::new(alloc), 1, Vec::new(alloc));
+    let mut input = MemSource::new(input, 4096, Vec::new(alloc));
     Ok(uqbt_main(alloc, &words, &mut files, &mut input, out, messages))
 }
 
-fn sink(alloc: Global) -> Result<MemSink, Fail> {
+pub fn sink(alloc: Global) -> Result<MemSink, Fail> {
     Ok(MemSink::new(alloc, 1 << 16, 7, Vec::new(alloc))?)
 }
 
 // The answer alone.
-fn plainly(
+pub fn plainly(
     alloc: Global,
     command: &[u8],
     letters: &[u8],
+    steps: &[u8],
     texts: &Texts<'_>,
 ) -> Result<Outcome, Fail> {
     answer(
         alloc,
         command,
         letters,
+        steps,
         texts,
+        Vec::new(alloc),
         &mut sink(alloc)?,
         &mut sink(alloc)?,
     )
@@ -102,11 +110,13 @@ fn words_and_files_are_asked_first(rt: HostRuntime) -> Result<(), Fail> {
     for (command, letters, want) in [
         (b"translate".as_slice(), b"abc".as_slice(), Outcome::Usage),
         (b"check", b"abcd", Outcome::Usage),
-        (b"run", b"abcd", Outcome::Usage),
+        (b"run", b"abc", Outcome::Usage),
+        (b"walk", b"abcd", Outcome::Usage),
         (b"translate", b"abcx", Outcome::ReadFault),
         (b"check", b"xbc", Outcome::ReadFault),
+        (b"run", b"axcd", Outcome::ReadFault),
     ] {
-        assert_eq!(rt; plainly(alloc, command, letters, &FINE)?, want);
+        assert_eq!(rt; plainly(alloc, command, letters, b"1", &FINE)?, want);
     }
     Ok(())
 }
@@ -114,9 +124,12 @@ fn words_and_files_are_asked_first(rt: HostRuntime) -> Result<(), Fail> {
 #[test]
 fn the_small_machine_is_accepted(rt: HostRuntime) -> Result<(), Fail> {
     let alloc = rt.alloc();
-    assert_eq!(rt; plainly(alloc, b"check", b"abc", &FINE)?, Outcome::Done);
     assert_eq!(rt;
-        plainly(alloc, b"translate", b"abcd", &FINE)?,
+        plainly(alloc, b"check", b"abc", b"", &FINE)?,
+        Outcome::Done
+    );
+    assert_eq!(rt;
+        plainly(alloc, b"translate", b"abcd", b"", &FINE)?,
         Outcome::Done
     );
     Ok(())
@@ -143,13 +156,13 @@ fn with_sled(alloc: Global, old: &[u8], new: &[u8]) -> Result<Outcome, Fail> {
         sled: &text,
         ..FINE
     };
-    plainly(alloc, b"check", b"abc", &texts)
+    plainly(alloc, b"check", b"abc", b"", &texts)
 }
 
 fn with_ssl(alloc: Global, old: &[u8], new: &[u8]) -> Result<Outcome, Fail> {
     let text = changed(alloc, SSL, old, new)?;
     let texts = Texts { ssl: &text, ..FINE };
-    plainly(alloc, b"check", b"abc", &texts)
+    plainly(alloc, b"check", b"abc", b"", &texts)
 }
 
 fn with_conv(alloc: Global, old: &[u8], new: &[u8]) -> Result<Outcome, Fail> {
@@ -158,7 +171,7 @@ fn with_conv(alloc: Global, old: &[u8], new: &[u8]) -> Result<Outcome, Fail> {
         conv: &text,
         ..FINE
     };
-    plainly(alloc, b"check", b"abc", &texts)
+    plainly(alloc, b"check", b"abc", b"", &texts)
 }
 
 #[test]
@@ -222,7 +235,16 @@ fn the_line_of_an_answer_is_told(rt: HostRuntime) -> Result<(), Fail> {
         sled: &text,
         ..FINE
     };
-    answer(alloc, b"check", b"abc", &texts, &mut out, &mut messages)?;
+    answer(
+        alloc,
+        b"check",
+        b"abc",
+        b"",
+        &texts,
+        Vec::new(alloc),
+        &mut out,
+        &mut messages,
+    )?;
     assert_eq!(rt;
         messages.bytes(),
         b"uqbt: description sled bad-line 5\n".as_slice()
@@ -233,7 +255,16 @@ fn the_line_of_an_answer_is_told(rt: HostRuntime) -> Result<(), Fail> {
         conv: &text,
         ..FINE
     };
-    answer(alloc, b"check", b"abc", &texts, &mut out, &mut messages)?;
+    answer(
+        alloc,
+        b"check",
+        b"abc",
+        b"",
+        &texts,
+        Vec::new(alloc),
+        &mut out,
+        &mut messages,
+    )?;
     assert_eq!(rt;
         messages.bytes(),
         b"uqbt: description conv missing 1\n".as_slice()
@@ -250,7 +281,7 @@ fn an_executable_cut_short_is_refused(rt: HostRuntime) -> Result<(), Fail> {
         ..FINE
     };
     assert_eq!(rt;
-        plainly(alloc, b"translate", b"abcd", &texts)?,
+        plainly(alloc, b"translate", b"abcd", b"", &texts)?,
         Outcome::Executable(ExeFault::Elf(ElfFault::Short))
     );
     Ok(())
@@ -265,7 +296,7 @@ fn a_text_over_four_mebibytes_is_too_long(rt: HostRuntime) -> Result<(), Fail> {
         ..FINE
     };
     assert_eq!(rt;
-        plainly(alloc, b"check", b"abc", &texts)?,
+        plainly(alloc, b"check", b"abc", b"", &texts)?,
         Outcome::FileTooLong {
             file: FileName::Sled
         }
@@ -279,7 +310,16 @@ fn a_full_output_is_a_write_fault(rt: HostRuntime) -> Result<(), Fail> {
     let mut out = MemSink::new(alloc, 64, 3, Vec::new(alloc))?;
     let mut messages = sink(alloc)?;
     assert_eq!(rt;
-        answer(alloc, b"translate", b"abcd", &FINE, &mut out, &mut messages)?,
+        answer(
+            alloc,
+            b"translate",
+            b"abcd",
+            b"",
+            &FINE,
+            Vec::new(alloc),
+            &mut out,
+            &mut messages
+        )?,
         Outcome::WriteFault
     );
     assert_eq!(rt; messages.bytes(), b"uqbt: write-fault\n".as_slice());

@@ -1,12 +1,12 @@
-//! How faults are told: a word, and the numbers behind it.
-ghost use Rattle.std.specs.Prelude.{◌≡◌, ◌++◌, codes};
-ghost use Rattle.c_text.specs.Words.{hex};
-ghost use Rattle.uqbt_top.specs.Told.{conv_words, desc_words, elf_words, exe_words, lexical_words, said_widths, said_with, sled_words, ssl_words, told_words};
+//! How faults and stops are told: a word, and the numbers behind it.
+ghost use Rattle.std.specs.Prelude.{◌≡◌, codes};
+ghost use Rattle.uqbt_top.specs.Told.{conv_words, desc_words, elf_words, exe_words, lexical_words, said_at, said_widths, said_with, sled_words, ssl_words, stop_words, told_words};
 
 use crate::ExeFault;
 use conventions::ConvFault;
 use descriptions::DescFault;
 use elf32::ElfFault;
+use rtl_core::Stop;
 use sled_rules::SledFault;
 use ssl_rules::SslFault;
 use text_lex::LexFault;
@@ -47,7 +47,7 @@ fn with(word: &'static [u8], number: u64) -> Told
 }
 
 fn at(word: &'static [u8], address: u32) -> Told
-    ensures { told_words result ≡ word.now ++ (codes " 0x" ++ hex address) }
+    ensures { told_words result ≡ said_at word.now address }
 {
     Told {
         word,
@@ -165,5 +165,26 @@ pub fn executable(fault: &ExeFault) -> Told
         ExeFault::Elf(fault) => elf(fault),
         ExeFault::AreaOverlap { index } => with(b"area-overlap", u64::from(*index)),
         ExeFault::TooLarge { points } => with(b"too-large", u64::from(*points)),
+    }
+}
+
+/// How a stop is told.
+pub fn stop(stop: &Stop) -> Told
+    ensures { told_words result ≡ stop_words stop.now }
+{
+    match stop {
+        Stop::Exit(status) => with(b"exit", u64::from(*status)),
+        Stop::Illegal(a) => at(b"illegal", *a),
+        Stop::MemoryFault(a) => at(b"memory", *a),
+        Stop::Misaligned(a) => at(b"misaligned", *a),
+        Stop::Divide(a) => at(b"divide", *a),
+        Stop::Trap(number) => with(b"trap", u64::from(*number)),
+        Stop::WindowFull => alone(b"window-full"),
+        Stop::WindowEmpty => alone(b"window-empty"),
+        Stop::Undiscovered(a) => at(b"undiscovered", *a),
+        Stop::ReturnMismatch(a) => at(b"return-mismatch", *a),
+        Stop::CallDepth => alone(b"call-depth"),
+        Stop::Couple(a) => at(b"couple", *a),
+        Stop::Undefined(item) => with(b"undefined", u64::from(*item)),
     }
 }

@@ -1,22 +1,29 @@
 // The call that does all that the program does.
 ghost use Rattle.std.specs.Prelude.{◌≡◌, ◌<◌, ◌-◌, ◌^◌, length, All};
+ghost use Rattle.edge_io.specs.Input.{Input};
 ghost use Rattle.edge_io.specs.Output.{Output, TookFront};
-ghost use Rattle.uqbt_top.specs.Command.{Check, Translate};
-ghost use Rattle.uqbt_top.specs.Causes.{Caused, CheckRead, CommandCaused, OnRefusal, TranslateRead, outcome_of};
+ghost use Rattle.uqbt_top.specs.Command.{Check, Run, Translate, command_of, run_steps};
+ghost use Rattle.uqbt_top.specs.Causes.{Caused, CheckRead, CommandCaused, KeepsOut, OnNoInput, OnRefusal, TranslateRead, outcome_of};
+ghost use Rattle.uqbt_top.specs.Running.{RunKeepsInput, RunKeepsOut, outcome_of_run};
+ghost use Rattle.uqbt_top.specs.Fed.{TooLongIsExact};
 ghost use Rattle.uqbt_top.specs.Longest.{LongIsExact};
 ghost use Rattle.uqbt_top.specs.Message.{message_of};
 
 use crate::built::{described, translated};
 use crate::message::tell;
-use crate::reading::{FileWord, Text, read_files};
+use crate::reading::{FileWord, FileWords, Text, read_files, read_four};
+use crate::running::run_texts;
+use crate::steps::steps_of;
 use crate::{FileName, Outcome};
 use c_text::write_c;
 use edge_io::{Sink, Source, Store, Word};
+use rtl_core::RunEnd;
 use std::alloc::Global;
 
 /// Does what the words say, over the files, the input and the sinks that are handed in, and tells the answer
 /// in one line of `messages`. The words are those behind the program's name: `translate SLED SSL CONV EXE`
-/// puts the C text of an executable to `out`; `check SLED SSL CONV` reads and checks three descriptions.
+/// puts the C text of an executable to `out`; `run SLED SSL CONV EXE N` runs N instructions of it on the input, and
+/// puts what they write to `out`; `check SLED SSL CONV` reads and checks three descriptions.
 pub fn uqbt_main<F: Store, S: Source, K: Sink, M: Sink>(
     alloc: Global,
     words: &[Word],
@@ -25,32 +32,72 @@ pub fn uqbt_main<F: Store, S: Source, K: Sink, M: Sink>(
     out: &mut K,
     messages: &mut M,
 ) -> Outcome
-    // When each answer comes, and what was written.
-    ensures caused { Caused (F.files files.old) words.now (F.names files.old) (F.names files.new)
-        (K.output out.old) (K.output out.new) result }
+    // When each answer comes, what was read and what was written.
+    ensures caused { Caused words.now (record {
+      told = F.files files.old;
+      names = F.names files.old;
+      names' = F.names files.new;
+      input = S.input input.old;
+      input' = S.input input.new;
+      out = K.output out.old;
+      out' = K.output out.new;
+    }) result }
     ensures long { LongIsExact (F.files files.old) words.now (F.names files.old) (F.names files.new) result }
-    ensures refusal { OnRefusal result (out.new ≡ out.old) }
+    ensures too_long { TooLongIsExact (S.input input.old) (S.input input.new) result }
+    ensures refusal { OnRefusal (command_of words.now) result (out.new ≡ out.old) }
     ensures files { F.files files.new ≡ F.files files.old }
-    ensures input { input.new ≡ input.old }
+    ensures input { OnNoInput (command_of words.now) result (input.new ≡ input.old) }
     ensures message { TookFront (M.output messages.old) (M.output messages.new) (message_of result) }
 {
-    let outcome = act(alloc, words, files, out);
+    let outcome = act(alloc, words, files, input, out);
     tell(messages, &outcome);
     outcome
 }
 
-fn act<F: Store, K: Sink>(alloc: Global, words: &[Word], files: &mut F, out: &mut K) -> Outcome
-    ensures caused { Caused (F.files files.old) words.now (F.names files.old) (F.names files.new)
-        (K.output out.old) (K.output out.new) result }
-    ensures refusal { OnRefusal result (out.new ≡ out.old) }
+fn act<F: Store, S: Source, K: Sink>(
+    alloc: Global,
+    words: &[Word],
+    files: &mut F,
+    input: &mut S,
+    out: &mut K,
+) -> Outcome
+    ensures caused { Caused words.now (record {
+      told = F.files files.old;
+      names = F.names files.old;
+      names' = F.names files.new;
+      input = S.input input.old;
+      input' = S.input input.new;
+      out = K.output out.old;
+      out' = K.output out.new;
+    }) result }
+    ensures refusal { OnRefusal (command_of words.now) result (out.new ≡ out.old) }
     ensures files { F.files files.new ≡ F.files files.old }
+    ensures input { OnNoInput (command_of words.now) result (input.new ≡ input.old) }
 {
     match words {
+        [command, sled, ssl, conv, exe, steps] => {
+            let Some(steps) = run_steps(command, steps) else {
+                return Outcome::Usage;
+            };
+            let names = FileWords {
+                sled,
+                ssl,
+                conv,
+                exe,
+            };
+            ran(run(alloc, &names, steps, files, input, out))
+        }
         [command, sled, ssl, conv, exe] => {
             if command.bytes() != b"translate".as_slice() {
                 return Outcome::Usage;
             }
-            answered(translate(alloc, sled, ssl, conv, exe, files, out))
+            let names = FileWords {
+                sled,
+                ssl,
+                conv,
+                exe,
+            };
+            answered(translate(alloc, &names, files, out))
         }
         [command, sled, ssl, conv] => {
             if command.bytes() != b"check".as_slice() {
@@ -60,6 +107,16 @@ fn act<F: Store, K: Sink>(alloc: Global, words: &[Word], files: &mut F, out: &mu
         }
         _ => Outcome::Usage,
     }
+}
+
+/// The steps of a run, where the first word asks for one and the last word is a number of steps.
+fn run_steps(command: &Word, steps: &Word) -> Option<u64>
+    ensures { result ≡ run_steps command.now steps.now }
+{
+    if command.bytes() != b"run".as_slice() {
+        return None;
+    }
+    steps_of(steps.bytes())
 }
 
 /// A private answer as one of the program.
@@ -72,6 +129,45 @@ fn answered(told: Result<(), Outcome>) -> Outcome
     }
 }
 
+/// The same of a run.
+fn ran(told: Result<RunEnd, Outcome>) -> Outcome
+    ensures { result ≡ outcome_of_run told }
+{
+    match told {
+        Ok(RunEnd::Stopped(stop)) => Outcome::Ran(stop),
+        Ok(RunEnd::Spent) => Outcome::Spent,
+        Ok(RunEnd::WriteFault) => Outcome::WriteFault,
+        Err(outcome) => outcome,
+    }
+}
+
+/// Runs the executable.
+fn run<F: Store, S: Source, K: Sink>(
+    alloc: Global,
+    names: &FileWords,
+    steps: u64,
+    files: &mut F,
+    input: &mut S,
+    out: &mut K,
+) -> Result<RunEnd, Outcome>
+    ensures caused { CommandCaused (Run names.now.sled.now names.now.ssl.now names.now.conv.now names.now.exe.now steps)
+        (record {
+          told = F.files files.old;
+          names = F.names files.old;
+          names' = F.names files.new;
+          input = S.input input.old;
+          input' = S.input input.new;
+          out = K.output out.old;
+          out' = K.output out.new;
+        }) (outcome_of_run result) }
+    ensures refusal { RunKeepsOut (outcome_of_run result) (out.new ≡ out.old) }
+    ensures files { F.files files.new ≡ F.files files.old }
+    ensures input { RunKeepsInput (outcome_of_run result) (input.new ≡ input.old) }
+{
+    let texts = read_four(alloc, files, names)?;
+    run_texts(alloc, texts.as_slice(), steps, input, out)
+}
+
 /// Reads and checks three descriptions.
 fn check<F: Store>(
     alloc: Global,
@@ -80,8 +176,16 @@ fn check<F: Store>(
     conv: &Word,
     files: &mut F,
 ) -> Result<(), Outcome>
-    ensures caused { (out : Output) → CommandCaused (F.files files.old) (Check sled.now ssl.now conv.now)
-        (F.names files.old) (F.names files.new) out out (outcome_of result) }
+    ensures caused { (input : Input) → (out : Output) → CommandCaused (Check sled.now ssl.now conv.now)
+        (record {
+          told = F.files files.old;
+          names = F.names files.old;
+          names' = F.names files.new;
+          input = input;
+          input' = input;
+          out = out;
+          out' = out;
+        }) (outcome_of result) }
     ensures files { F.files files.new ≡ F.files files.old }
 {
     let words = [
@@ -115,39 +219,27 @@ fn check_texts(alloc: Global, texts: &[Text]) -> Result<(), Outcome>
     Ok(())
 }
 
+/// Translates the executable.
 fn translate<F: Store, K: Sink>(
     alloc: Global,
-    sled: &Word,
-    ssl: &Word,
-    conv: &Word,
-    exe: &Word,
+    names: &FileWords,
     files: &mut F,
     out: &mut K,
 ) -> Result<(), Outcome>
-    ensures caused { CommandCaused (F.files files.old) (Translate sled.now ssl.now conv.now exe.now)
-        (F.names files.old) (F.names files.new) (K.output out.old) (K.output out.new) (outcome_of result) }
-    ensures refusal { OnRefusal (outcome_of result) (out.new ≡ out.old) }
+    ensures caused { (input : Input) → CommandCaused (Translate names.now.sled.now names.now.ssl.now names.now.conv.now names.now.exe.now)
+        (record {
+          told = F.files files.old;
+          names = F.names files.old;
+          names' = F.names files.new;
+          input = input;
+          input' = input;
+          out = K.output out.old;
+          out' = K.output out.new;
+        }) (outcome_of result) }
+    ensures refusal { KeepsOut (outcome_of result) (out.new ≡ out.old) }
     ensures files { F.files files.new ≡ F.files files.old }
 {
-    let words = [
-        FileWord {
-            file: FileName::Sled,
-            name: sled,
-        },
-        FileWord {
-            file: FileName::Ssl,
-            name: ssl,
-        },
-        FileWord {
-            file: FileName::Conv,
-            name: conv,
-        },
-        FileWord {
-            file: FileName::Exe,
-            name: exe,
-        },
-    ];
-    let texts = read_files(alloc, files, &words)?;
+    let texts = read_four(alloc, files, names)?;
     write_program(alloc, texts.as_slice(), out)
 }
 
@@ -156,7 +248,7 @@ fn write_program<K: Sink>(alloc: Global, texts: &[Text], out: &mut K) -> Result<
     requires four { length texts.now ≡ 4 }
     requires short { All (λ t. length t < 2 ^ 32 - 1) texts.now }
     ensures caused { TranslateRead texts.now (K.output out.old) (K.output out.new) (outcome_of result) }
-    ensures refusal { OnRefusal (outcome_of result) (out.new ≡ out.old) }
+    ensures refusal { KeepsOut (outcome_of result) (out.new ≡ out.old) }
 {
     let [sled, ssl, conv, exe] = texts else {
         unreachable!()

@@ -1,4 +1,4 @@
-use Rattle.std.proofs.Common.{refl, sym, ap, ◌∙◌, subst}
+use Rattle.std.proofs.Common.{refl, ap, ◌∙◌, subst}
 use Rattle.std.specs.Prelude.{IfSome, map}
 use Rattle.c_emit.specs.Emitted.{TranslatesLines}
 use Rattle.c_emit.specs.Line.{segment_of}

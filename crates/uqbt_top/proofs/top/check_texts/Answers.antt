@@ -1,4 +1,4 @@
-use Rattle.std.proofs.Common.{refl, sym, ◌∙◌}
+use Rattle.std.proofs.Common.{refl, ◌∙◌}
 use Rattle.std.proofs.lemmas.Result.{err_from_is_err_and}
 use Rattle.uqbt_top.proofs.BuiltLaws.{three_texts, check_refused}
 use Rattle.uqbt_top.proofs.top.check_texts.Goals as goal

@@ -1,5 +1,9 @@
 use Rattle.uqbt_top.proofs.Longer.{exactly_long}
+use Rattle.uqbt_top.proofs.Feeding.{exactly_fed}
 use Rattle.uqbt_top.proofs.top.uqbt_main.Goals as goal
 
 pub returns-clause-long : goal.returns-clause-long
-returns-clause-long g c = exactly_long (g.F.Store.files c.args.files.now) c.args.words.now (g.F.Store.names c.args.files.now) (g.F.Store.names c.act-outcome.new.files) (g.K.Sink.output c.args.out.now) (g.K.Sink.output c.act-outcome.new.out) c.act-outcome.result c.act-outcome.ensures.caused
+returns-clause-long g c = exactly_long c.args.words.now _ c.act-outcome.result c.act-outcome.ensures.caused
+
+pub returns-clause-too_long : goal.returns-clause-too_long
+returns-clause-too_long g c = exactly_fed c.args.words.now _ c.act-outcome.result c.act-outcome.ensures.caused

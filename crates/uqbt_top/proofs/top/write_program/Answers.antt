@@ -1,4 +1,4 @@
-use Rattle.std.proofs.Common.{refl, sym, ◌∙◌}
+use Rattle.std.proofs.Common.{◌∙◌}
 use Rattle.std.proofs.lemmas.Result.{err_from_is_err_and}
 use Rattle.uqbt_top.proofs.BuiltLaws.{four_texts, translate_refused}
 use Rattle.uqbt_top.proofs.top.write_program.Goals as goal
