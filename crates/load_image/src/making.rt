@@ -1,5 +1,5 @@
 //! An executable and conventions, made an image.
-ghost use Rattle.std.specs.Prelude.{◌≡◌, ◌≢◌, All, Some, IfOk, IfErr};
+ghost use Rattle.std.specs.Prelude.{◌≡◌, ◌≢◌, All, Some, None, IfOk, IfErr, OnOk};
 ghost use Rattle.rtl_core.specs.SoundConv.{IsSoundConv};
 ghost use Rattle.elf32.specs.Reading.{AreLoadable};
 ghost use Rattle.space.specs.Ranges.{memory_of};
@@ -30,6 +30,7 @@ pub fn make_image(alloc: Global, elf: &Elf, conv: &Conv) -> Result<Image, ImageF
     requires sound { IsSoundConv conv.now }
     requires loadable { AreLoadable elf.now.segments }
     ensures image { IfOk result (λ image. image ≡ image_of elf.now conv.now) }
+    ensures none { OnOk result (overlap_fault conv.now elf.now.segments ≡ None) }
     ensures apart { IfOk result (λ _. All (λ s. ¬ SharesByte conv.now s) elf.now.segments) }
     ensures memory { IfOk result (λ image. IsFirstMemory elf.now.segments conv.now (memory_of image.ranges)) }
     ensures frozen { IfOk result (λ image. IsFrozen elf.now.segments (memory_of image.ranges) image.frozen) }

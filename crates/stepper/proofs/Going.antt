@@ -12,7 +12,7 @@ use Rattle.edge_io.specs.Counts.{counted}
 use Rattle.edge_io.specs.Output.{Output, TookPart}
 use Rattle.edge_io.specs.Told.{followed}
 use Rattle.stepper.specs.Shown.{Shown, IsReady, state_of, moment}
-use Rattle.stepper.specs.Ran.{ran, written, Came, Took, TookPrefix, end_after, AddsWritten}
+use Rattle.stepper.specs.Ran.{ran, written, Came, Took, TookPrefix, end_after, AddsWritten, TellsStop}
 use Rattle.stepper.proofs.Stretches.{Extends, output_in, take-front, stays, front-of}
 
 -- ---- told bytes
@@ -78,6 +78,11 @@ took-one a b (Some stop) w p e h = h ∙ ap (followed a.taken) (sym e)
 pub ready-again : (new : Shown) (stop : Option Stop) (end : RunEnd) → end ≡ end_after stop → end ≡ Spent → new.stopped ≡ is_some stop → new.state.streams.pending ≡ [] → IsReady new
 ready-again new None end is spent stopped empty = record { going = stopped; empty = empty }
 ready-again new (Some stop) end is spent stopped empty = let no : ⊥ = cc in absurd no
+
+-- and where it stopped it says so
+pub stop-told : (new : Shown) (stop : Option Stop) (end : RunEnd) → end ≡ end_after stop → new.stopped ≡ is_some stop → TellsStop end new
+stop-told new None end is stopped = subst (λ e. TellsStop e new) (sym is) tt
+stop-told new (Some stop) end is stopped = subst (λ e. TellsStop e new) (sym is) stopped
 
 -- nothing was taken
 pub took-none : (a : Output) (bytes : List ℕ) → TookPrefix a a bytes

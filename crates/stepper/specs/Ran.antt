@@ -1,5 +1,5 @@
 -- What a run of some steps comes to.
-use Rattle.std.specs.Prelude.{◌≡◌, ℕ, ◌≤◌, List, [], ◌++◌, length, take, Option, Some, None}
+use Rattle.std.specs.Prelude.{◌≡◌, ℕ, true, ◌≤◌, List, [], ◌++◌, length, take, Option, Some, None}
 use Rattle.lockstep.specs.Runs.{Goes, Ends, after}
 use Rattle.lockstep.specs.Meets.{next_out}
 use Rattle.rtl_core.specs.declared.stop.RunEnd.{RunEnd}
@@ -33,6 +33,11 @@ abbrev pub Came : RunEnd → Shown → Shown → ℕ → Type 0
 Came (Stopped stop) old new n = (before : List ℕ) → ran old n before ≡ Ends (before ++ written old n) stop
 Came Spent old new n = (before : List ℕ) → ran old n before ≡ Goes (state_of (before ++ written old n) new.state)
 Came WriteFault old new n = Unit {0}
+
+-- a guest whose run came to a stop has stopped
+abbrev pub TellsStop : RunEnd → Shown → Type 0
+TellsStop (Stopped stop) g = g.stopped ≡ true
+TellsStop _ g = Unit {0}
 
 -- a sink took a front of the bytes
 pub record TookPrefix (old new : Output) (bytes : List ℕ) : Type 0 where

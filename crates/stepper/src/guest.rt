@@ -4,7 +4,7 @@ ghost use Rattle.rtl_core.specs.declared.stop.RunEnd.TheVariants.{Spent};
 ghost use Rattle.points.specs.Machine.{first_state, step as next_of};
 ghost use Rattle.space.specs.Ranges.{memory_of};
 ghost use Rattle.stepper.specs.Shown.{Shown, IsReady, IsSoundSetting, setting_of, state_of, moment};
-ghost use Rattle.stepper.specs.Ran.{Came, Took, TookPrefix, AddsWritten, written, end_after};
+ghost use Rattle.stepper.specs.Ran.{Came, TellsStop, Took, TookPrefix, AddsWritten, written, end_after};
 
 use crate::one_step::advance;
 use crate::run_state::{RunState, first_parts};
@@ -122,6 +122,7 @@ impl<'a> Guest<'a> {
         ensures later { (K.output out.old).faults ≤ (K.output out.new).faults }
         ensures setting { self.new.setting ≡ self.old.setting }
         ensures again { IfOk result (λ end. end ≡ Spent → IsReady self.new) }
+        ensures stopped { IfOk result (λ end. TellsStop end self.new) }
     {
         for _ in 0..n {
             let end = self.run_one(out)?;
@@ -141,6 +142,7 @@ impl<'a> Guest<'a> {
         ensures later { (K.output out.old).faults ≤ (K.output out.new).faults }
         ensures setting { self.new.setting ≡ self.old.setting }
         ensures again { IfOk result (λ end. end ≡ Spent → IsReady self.new) }
+        ensures stopped { IfOk result (λ end. TellsStop end self.new) }
         ensures adds { IfOk result (λ _. AddsWritten self.old 1) }
         ensures err { OnErr result (out.new ≡ out.old) }
     {

@@ -1,6 +1,6 @@
 -- What is built of files, and what is done with them.
-use Rattle.std.proofs.Common.{◌≡◌, ℕ, ◌+◌, ◌<◌, List, [], ◌∷◌, ◌++◌, length, map, take, get_or, Option, None, false, ◌≤◌, ◌-◌, ◌^◌, refl, sym, ap, ◌∙◌, subst, arith}
-use Rattle.std.specs.Prelude.{is_some, All, IfErr, Result, Ok, Err}
+use Rattle.std.proofs.Common.{◌≡◌, ℕ, Bool, ◌+◌, ◌<◌, List, [], ◌∷◌, ◌++◌, length, map, take, get_or, Option, None, false, ◌≤◌, ◌-◌, ◌^◌, refl, sym, ap, ◌∙◌, subst, arith}
+use Rattle.std.specs.Prelude.{is_some, All, IfOk, IfErr, Result, Ok, Err}
 use Rattle.std.proofs.lemmas.List.Elements.{All-nil, All-cons, All-head, All-tail}
 use Rattle.rtl_core.specs.declared.encodings.Encodings.{Encodings}
 use Rattle.points.specs.Machine.{Setting}
@@ -99,10 +99,10 @@ is_translated d i e segments p same are ready translates =
     subst (λ x. IsTranslation (setting_by x d i) (parts_of i) i.entry p) same
     (translates (parts_of i) are (subst AreShortSegments (sym are) (short_segments i.segments ready.segments)))
 
--- an image without a text is too large
-pub is_long : (d : Described) (i : Image) (e : Encodings) (found : Option Program) → e ≡ d.encodings → is_some found ≡ ends_within (setting_by e d i) most_points i.entry → found ≡ None
-    → ends_within (setting_with d i) most_points i.entry ≡ false
-is_long d i e found same long none = ap (λ x. ends_within (setting_by x d i) most_points i.entry) (sym same) ∙ sym long ∙ ap is_some none
+-- whether its line ends, by what was built of it
+pub line_told : (d : Described) (i : Image) (e : Encodings) (told v : Bool) → e ≡ d.encodings → told ≡ ends_within (setting_by e d i) most_points i.entry → told ≡ v
+    → ends_within (setting_with d i) most_points i.entry ≡ v
+line_told d i e told v same ends is = ap (λ x. ends_within (setting_by x d i) most_points i.entry) (sym same) ∙ sym ends ∙ is
 
 -- why an image has no program is why its executable is refused
 pub is_refused : (t : Descriptions) (exe : List ℕ) (d : Described) (i : Image) (o : Outcome) → AreOf t d → IsImageOf d exe i → IsLong d i o → IsRefused t exe o
@@ -120,6 +120,11 @@ is_refused t exe d i InputTooLong of loaded long = absurd long
 is_refused t exe d i (FileTooLong file) of loaded long = absurd long
 is_refused t exe d i WriteFault of loaded long = absurd long
 is_refused t exe d i ReadFault of loaded long = absurd long
+
+-- from two facts of a value to another
+pub if_ok : {T E : Type 0} (r : Result T E) (P Q R : T → Type 0) → ((x : T) → P x → Q x → R x) → IfOk r P → IfOk r Q → IfOk r R
+if_ok (Ok x) P Q R both p q = both x p q
+if_ok (Err e) P Q R both p q = tt
 
 -- from one fact of an error to another
 pub if_err : {T E : Type 0} (r : Result T E) (P Q : E → Type 0) → ((e : E) → P e → Q e) → IfErr r P → IfErr r Q

@@ -63,11 +63,6 @@ took_some old n view out out' v took = record { written = written old n; shown =
 
 -- ---- an image
 
--- whether its line ends, by what was built of it
-pub line_told : (d : Described) (i : Image) (e : Encodings) (told v : Bool) → e ≡ d.encodings → told ≡ ends_within (setting_by e d i) most_points i.entry → told ≡ v
-    → ends_within (setting_with d i) most_points i.entry ≡ v
-line_told d i e told v same ends is = ap (λ x. ends_within (setting_by x d i) most_points i.entry) (sym same) ∙ sym ends ∙ is
-
 -- the input isn't had
 pub no_input_ran : (d : Described) (i : Image) (n : ℕ) (input input' : Input) (out : Output) (o : Outcome) → ends_within (setting_with d i) most_points i.entry ≡ true → NoInput input input' o
     → LoadedRan d i n input input' out out o

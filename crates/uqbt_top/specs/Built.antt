@@ -1,5 +1,5 @@
 -- What is built of the files of `translate`, and why nothing is.
-use Rattle.std.specs.Prelude.{◌≡◌, ℕ, ◌≤◌, ◌-◌, ◌^◌, false, List, length, map, Ok, Err, Some, All}
+use Rattle.std.specs.Prelude.{◌≡◌, ℕ, ◌≤◌, ◌-◌, ◌^◌, false, List, length, map, Ok, Err, Some, All, true, None}
 use Rattle.rtl_core.specs.FirstMemory.{Part}
 use Rattle.points.specs.Machine.{Setting}
 use Rattle.decode.specs.At.{AreShort}
@@ -44,10 +44,11 @@ IsFirstFault t _ fault = ⊥
 
 -- ---- executables
 
--- the file is an executable of the machine, and this is its image
+-- the file is an executable of the machine, none of its segments is in the way of the stack or the heap, and this is its image
 pub record IsImageOf (d : Described) (exe : List ℕ) (i : Image) : Type 0 where
   pub elf : Elf
   pub read : elf_of exe d.conv d.named.machine.order ≡ Ok elf
+  pub apart : overlap_fault d.conv elf.segments ≡ None
   pub made : i ≡ image_of elf d.conv
 
 -- the machine with an image
@@ -92,14 +93,20 @@ pub record IsReady (i : Image) : Type 0 where
   pub frozen : AreShort i.frozen
   pub segments : All (λ s. length s.bytes ≤ 2 ^ 32 - 1) i.segments
 
+-- the descriptions describe a machine, the executable has no fault, and this is its image
+pub record IsRunnable (t : Descriptions) (exe : List ℕ) (d : Described) (i : Image) : Type 0 where
+  pub of : AreOf t d
+  pub loaded : IsImageOf d exe i
+  pub short : ends_within (setting_with d i) most_points i.entry ≡ true
+
 -- ---- translations
 
--- p is a translation of the executable on the described machine: it is the same, and no other program has its text
+-- p is a translation of the executable, which has no fault, on the described machine: it is the same, and no other
+-- program has its text
 pub record Translates (t : Descriptions) (exe : List ℕ) (p : Program) : Type 0 where
   pub described : Described
-  pub of : AreOf t described
   pub image : Image
-  pub loaded : IsImageOf described exe image
+  pub runnable : IsRunnable t exe described image
   pub translation : IsTranslation (setting_with described image) (parts_of image) image.entry p
 
 -- why descriptions are refused, by the answer

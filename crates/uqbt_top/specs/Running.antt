@@ -20,15 +20,9 @@ use Rattle.stepper.specs.Ran.{TookPrefix}
 use Rattle.uqbt_top.specs.declared.outcome.ExeFault.TheVariants.{TooLarge}
 use Rattle.uqbt_top.specs.declared.outcome.Outcome.{Outcome}
 use Rattle.uqbt_top.specs.declared.outcome.Outcome.TheVariants.{Description, Executable, NoMemory, Ran, Spent, InputTooLong, WriteFault, ReadFault}
-use Rattle.uqbt_top.specs.Built.{Descriptions, AreOf, IsFirstFault, IsImageOf, IsUnusable, setting_with, parts_of, most_points}
+use Rattle.uqbt_top.specs.Built.{Descriptions, IsFirstFault, IsRunnable, IsUnusable, setting_with, parts_of, most_points}
 
 -- ---- the machine
-
--- the executable has no fault, and this is its image on the described machine
-pub record IsRunnable (t : Descriptions) (exe : List ℕ) (d : Described) (i : Image) : Type 0 where
-  pub of : AreOf t d
-  pub loaded : IsImageOf d exe i
-  pub short : ends_within (setting_with d i) most_points i.entry ≡ true
 
 -- the memory before the first instruction: the segments, the heap and the stack
 abbrev pub image_memory : Described → Image → Contents

@@ -1,10 +1,10 @@
 //! What is built of the files.
-ghost use Rattle.std.specs.Prelude.{◌≡◌, ◌<◌, ◌-◌, ◌^◌, length, map, IfOk, IfErr};
+ghost use Rattle.std.specs.Prelude.{◌≡◌, ◌<◌, ◌-◌, ◌^◌, length, map, true, IfOk, IfErr};
 ghost use Rattle.rtl_core.specs.SoundConv.{AreSoundTogether};
 ghost use Rattle.c_emit.specs.Emitted.{IsTranslation};
-ghost use Rattle.c_emit.specs.Line.{segment_of};
+ghost use Rattle.c_emit.specs.Line.{ends_within, segment_of};
 ghost use Rattle.load_image.specs.Mapped.{segment_part};
-ghost use Rattle.uqbt_top.specs.Built.{AreOf, AreRefused, IsExeFault, IsImageOf, IsLong, IsReady, IsRefused, IsRefusedExe, Translates, parts_of, setting_with};
+ghost use Rattle.uqbt_top.specs.Built.{AreOf, AreRefused, IsExeFault, IsImageOf, IsLong, IsReady, IsRefused, IsRefusedExe, Translates, most_points, parts_of, setting_with};
 ghost use Rattle.uqbt_top.specs.Running.{HasMemory};
 
 use crate::{ExeFault, FileName, Outcome};
@@ -93,6 +93,7 @@ pub fn program_of(alloc: Global, on: &Described, image: &Image) -> Result<Progra
     requires sound { AreSoundTogether on.now.encodings on.now.named.machine on.now.conv }
     requires ready { IsReady image.now }
     ensures translation { IfOk result (λ p. IsTranslation (setting_with on.now image.now) (parts_of image.now) image.now.entry p) }
+    ensures short { IfOk result (λ _. ends_within (setting_with on.now image.now) most_points image.now.entry ≡ true) }
     ensures refused { IfErr result (λ o. IsLong on.now image.now o) }
 {
     let matcher = Matcher::build(alloc, &on.encodings)?;

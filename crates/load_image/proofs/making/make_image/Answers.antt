@@ -24,6 +24,10 @@ returns-in-Some-clause-first c known =
     first_overlap c.args.conv.now c.args.elf.now.segments c.in-Some.fault
     (answered c.args.conv.now c.as_slice-segments.result.now c.args.elf.now.segments _ _ c.overlap_fault.ensures c.as_slice-segments.ensures c.in-Some.is)
 
+pub returns-clause-none : goal.returns-clause-none
+returns-clause-none c =
+    answered c.args.conv.now c.as_slice-segments.result.now c.args.elf.now.segments _ _ c.overlap_fault.ensures c.as_slice-segments.ensures c.in_default.is
+
 pub returns-clause-apart : goal.returns-clause-apart
 returns-clause-apart c =
     none_overlaps c.args.conv.now c.args.elf.now.segments

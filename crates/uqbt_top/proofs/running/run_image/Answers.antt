@@ -3,8 +3,8 @@ use Rattle.std.proofs.lemmas.Result.{err_from_is_err_and}
 use Rattle.points.specs.Machine.{machine_run}
 use Rattle.space.specs.Ranges.{memory_of}
 use Rattle.uqbt_top.specs.Running.{IsInput}
-use Rattle.uqbt_top.proofs.BuiltLaws.{setting_by}
-use Rattle.uqbt_top.proofs.RunLaws.{line_told, no_input_ran, same_view, guest_ran}
+use Rattle.uqbt_top.proofs.BuiltLaws.{line_told, setting_by}
+use Rattle.uqbt_top.proofs.RunLaws.{no_input_ran, same_view, guest_ran}
 use Rattle.uqbt_top.proofs.running.run_image.Goals as goal
 
 pub returns-then-not-branch-clause-did : goal.returns-then-not-branch-clause-did

@@ -2,7 +2,7 @@ use Rattle.std.proofs.Common.{◌∙◌, sym, ap, subst, []}
 use Rattle.edge_io.specs.Output.{TookPart}
 use Rattle.edge_io.specs.Told.{followed}
 use Rattle.stepper.specs.Ran.{Came, Took, written}
-use Rattle.stepper.proofs.Going.{written-one, adds-one, came-one, took-one, ready-again}
+use Rattle.stepper.proofs.Going.{written-one, adds-one, came-one, took-one, ready-again, stop-told}
 use Rattle.stepper.proofs.guest.Guest.run_one.Goals as goal
 
 pub returns-in-Err-clause-took : goal.returns-in-Err-clause-took
@@ -39,3 +39,7 @@ returns-in-Ok-clause-took g c =
 pub returns-in-Ok-clause-again : goal.returns-in-Ok-clause-again
 returns-in-Ok-clause-again g c = λ spent.
     ready-again c.drained.new.self c.in_ok-stop.stop c.end_of.result c.end_of.ensures spent (ap (λ last. last.stopped) c.drained.ensures ∙ c.in_ok-stop.ensures.stopped) (ap (λ last. last.state.streams.pending) c.drained.ensures)
+
+pub returns-in-Ok-clause-stopped : goal.returns-in-Ok-clause-stopped
+returns-in-Ok-clause-stopped g c =
+    stop-told c.drained.new.self c.in_ok-stop.stop c.end_of.result c.end_of.ensures (ap (λ last. last.stopped) c.drained.ensures ∙ c.in_ok-stop.ensures.stopped)
