@@ -15,6 +15,3 @@ pub mod vars;
 
 pub use one_step::plain_step;
 pub use state::{PlainFrame, PlainPlace, PlainState, Setting, Taken, Way, Word};
-
-#[cfg(test)]
-mod tests;

@@ -14,7 +14,6 @@ pub mod CodeLaws
 pub mod MoveLaws
 pub mod ActLaws
 pub mod TransferLaws
-pub mod SoundSamples
 pub mod Tidy
 pub mod TidyActs
 pub mod Names

@@ -8,5 +8,4 @@ pub mod Naming
 pub mod Tidy
 pub mod Theorem
 pub mod Lowerable
-pub mod Samples
 pub mod GroundBound

@@ -9,8 +9,6 @@ mod formulas;
 mod instruction;
 mod operations;
 mod temporary_count;
-#[cfg(test)]
-mod tests;
 mod window_moves;
 
 pub use c_lang::Stmt;

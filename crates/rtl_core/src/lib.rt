@@ -13,8 +13,6 @@ pub mod examples;
 pub mod expr;
 mod expr_copies;
 pub mod frozen;
-#[cfg(test)]
-mod ground_tests;
 mod grounding;
 pub mod inst;
 pub mod laws;

@@ -88,26 +88,3 @@ impl CellNames {
         self.groups.get(name).copied()
     }
 }
-
-#[cfg(test)]
-mod tests {
-    use super::*;
-
-    #[test]
-    fn finds_cells_by_name(rt: HostRuntime) {
-        let mut names = CellNames::new(rt.alloc());
-        assert!(rt; names.add(b"r", 0, Some(32)).is_ok());
-        assert!(rt; names.add(b"C", 32, None).is_ok());
-        for (name, index, cell) in [
-            (b"r".as_slice(), Some(0), Some(0)),
-            (b"r".as_slice(), Some(31), Some(31)),
-            (b"r".as_slice(), Some(32), None),
-            (b"r".as_slice(), None, None),
-            (b"C".as_slice(), None, Some(32)),
-            (b"C".as_slice(), Some(0), None),
-            (b"q".as_slice(), None, None),
-        ] {
-            assert_eq!(rt; names.cell_of(name, index), cell);
-        }
-    }
-}

@@ -1,4 +1,3 @@
 pub mod Sound
 pub mod Saved
 pub mod Effects
-pub mod TestMachine

@@ -14,10 +14,3 @@ pub use effect::Effect;
 pub use evaluation::{eval, width_of_expr};
 pub use rtl_core::Trap;
 pub use windows::{Window, Windows};
-
-#[cfg(test)]
-mod act_tests;
-#[cfg(test)]
-mod test_memory;
-#[cfg(test)]
-mod tests;

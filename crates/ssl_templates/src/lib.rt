@@ -17,6 +17,3 @@ pub use counts::transfers_count;
 pub use expressions::expand;
 pub use instructions::instruction_template;
 pub use operands::operand_template;
-
-#[cfg(test)]
-mod tests;

@@ -1,0 +1,2 @@
+pub mod TestMachine
+pub mod Samples
