@@ -6,12 +6,13 @@ pub mod FreshLemmas
 pub mod OwnLemmas
 pub mod KnownSame
 pub mod TemplateLemmas
+pub mod StoodLemmas
 pub mod TypeLemmas
+pub mod TypingLemmas
 pub mod GrowthLemmas
 pub mod FineLemmas
 pub mod FormLemmas
 pub mod MostLemmas
-pub mod SeekLemmas
 pub mod TextSteps
 pub mod LineLemmas
 pub mod LateLemmas

@@ -1,5 +1,5 @@
 -- An answer that is exact is sound, and its names name its cells.
-use Rattle.std.proofs.Common.{◌≡◌, true, List, Option, Some, None, refl, ap, subst}
+use Rattle.std.proofs.Common.{◌≡◌, true, List, Option, Some, None, refl, subst}
 use Rattle.std.specs.Prelude.{All, Result, Ok, Err, IfOk}
 use Rattle.ssl_syntax.specs.declared.line.SslLine.{SslLine}
 use Rattle.ssl_syntax.specs.Texts.{is_line}

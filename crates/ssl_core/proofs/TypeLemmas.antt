@@ -1,5 +1,5 @@
 -- The one type of each constructor, in sound encodings.
-use Rattle.std.proofs.Common.{◌≡◌, ◌≢◌, ℕ, ◌<◌, Bool, true, false, cond, List, [], ◌∷◌, length, get_or, Option, Some, None, refl, sym, ap, subst, ◌∙◌, ◌⊎◌, inl, inr, arith, eqb, ltb, eqb-true, eq-eqb, unwrap_or}
+use Rattle.std.proofs.Common.{◌≡◌, ◌≢◌, ℕ, ◌<◌, ◌≤◌, Bool, true, false, cond, List, [], ◌∷◌, length, get_or, Option, Some, None, refl, sym, ap, subst, ◌∙◌, ◌⊎◌, inl, inr, arith, eqb, ltb, eqb-true, eq-eqb, unwrap_or}
 use Rattle.std.specs.Prelude.{slice_get, slice_set, find, option_map}
 use Rattle.std.specs.Option.{option_or}
 use Rattle.std.specs.List.{list_any, position_or_len}
@@ -10,6 +10,9 @@ use Rattle.std.proofs.lemmas.List.Elements.{All-weaker}
 use Rattle.std.proofs.lemmas.List.Sums.{position_or_len_is}
 use Rattle.std.proofs.lemmas.List.{get_or-set_same, get_or-set_other}
 use Rattle.std.proofs.Math.ListN.{length-set}
+use Rattle.ssl_core.specs.Stood.{AreStood}
+use Rattle.ssl_core.specs.Typing.{AreTyped}
+use Rattle.ssl_core.proofs.StoodLemmas.{stood_still}
 use Rattle.ssl_core.proofs.Basics.{or_none}
 use Rattle.ssl_core.specs.declared.given.Given.{Given as State}
 use Rattle.ssl_core.specs.State.{shown, Holds, AreCellsNamed}
@@ -18,7 +21,7 @@ use Rattle.rtl_core.specs.declared.encodings.Encodings.{Encodings}
 use Rattle.rtl_core.specs.SoundEncodings.{AreTypes, IsSoundEncodings}
 use Rattle.ssl_core.specs.MoreTemplates.{with_made}
 use Rattle.ssl_core.specs.TypeTables.{width_put, with_width}
-use Rattle.ssl_rules.specs.Given.{Given, Made, is_of, type_of, type_width}
+use Rattle.ssl_rules.specs.Given.{Given, Made, template_for, is_of, type_of, type_width}
 
 module _ (types : List (List ℕ)) (n : ℕ) (a : AreTypes types n) where
   -- a constructor is listed by its type alone
@@ -78,6 +81,30 @@ module _ (enc : Encodings) (a : AreTypes enc.types (length enc.constructors)) wh
 
   pub type_of-within : (c : ℕ) → c < length enc.constructors → type_of enc c < length enc.types
   type_of-within c h = subst (λ k. k < length enc.types) (sym (type_is c h)) (type_within enc.types (length enc.constructors) a c h)
+
+-- ---- a constructor that is not there
+
+module _ (enc : Encodings) (a : AreTypes enc.types (length enc.constructors)) (c : ℕ) (past : length enc.constructors ≤ c) where
+  away : (t d : ℕ) → (d < length enc.constructors) × (a.type_of d ≡ t) → eqb d c ≡ false
+  away t d f = let below : d < c = omega (arith, f.0, past) in unlike d c below
+    where
+      unlike : (d c : ℕ) → d < c → eqb d c ≡ false
+      unlike d c h = grind (arith, nat_tests)
+
+  no_place : (t : ℕ) → t < length enc.types → list_any (λ d. eqb d c) (get_or enc.types t []) ≡ false
+  no_place t h =
+      let cs : List ℕ = get_or enc.types t [] in
+      list_any_none (λ d. eqb d c) cs
+      (All-weaker (λ d. (d < length enc.constructors) × (a.type_of d ≡ t)) (λ d. eqb d c ≡ false) (away t) cs (a.each t cs (slice_get-get_or enc.types t [] h)).1)
+
+  pub type_past : type_of enc c ≡ 0
+  type_past =
+      let all : position_or_len (λ cs. list_any (λ d. eqb d c) cs) enc.types ≡ length enc.types =
+      position_or_len_is (λ cs. list_any (λ d. eqb d c) cs) enc.types (length enc.types) [] (omega arith) no_place (λ i. absurd (omega (arith, i))) in
+      ap (λ i. unwrap_or (cond (ltb i (length enc.types)) (Some i) None) 0) all ∙ ap (λ b. unwrap_or (cond b (Some (length enc.types)) None) 0) (not_below (length enc.types))
+    where
+      not_below : (n : ℕ) → ltb n n ≡ false
+      not_below n = grind (arith, nat_tests)
 
 -- ---- the width of the first template of each type
 
@@ -140,12 +167,16 @@ length-with_width ws t w = length-put ws t w (slice_get ws t)
 
 -- what stays true with a template more
 pub holds_more : (enc : Encodings) (old new : State) (m : Made) → IsSoundEncodings enc → Holds enc old → m.constructor < length enc.constructors
+    → template_for (shown old) m.constructor ≡ None → new.stands ≡ old.stands → new.types ≡ old.types
     → new.tables ≡ old.tables → shown new ≡ with_made (shown old) m → new.widths ≡ with_width old.widths (type_of enc m.constructor) m.width → Holds enc new
-holds_more enc old new m sound h there tables step widths =
+holds_more enc old new m sound h there none stands types tables step widths =
     let t : ℕ = type_of enc m.constructor in
     let within : t < length old.widths = subst (λ n. t < n) (sym h.count) (type_of-within enc sound.types m.constructor there) in
     record {
       cells = subst AreCellsNamed (sym tables) h.cells;
+      types = subst (AreTyped enc) (sym types) h.types;
+      stood = λ s r e. subst (λ g. AreStood enc g s r) (sym step)
+          (stood_still (shown old) m none enc s r (h.stood s r (ap (λ ws. slice_get ws s) (sym stands) ∙ e)));
       count = ap length widths ∙ length-with_width old.widths t m.width ∙ h.count;
       widths = λ s. ap (λ ws. unwrap_or (slice_get ws s) None) widths ∙ with_width-found old.widths t m.width s within
           ∙ ap (λ o. option_or o (cond (eqb s t) (Some m.width) None)) (h.widths s)

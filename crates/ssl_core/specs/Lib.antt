@@ -1,4 +1,6 @@
 pub mod Shown
+pub mod Stood
+pub mod Typing
 pub mod State
 pub mod Kept
 pub mod Numbers

@@ -15,8 +15,8 @@ ghost use Rattle.ssl_core.specs.State.{shown, Holds};
 ghost use Rattle.ssl_core.specs.TypeTables.{with_width};
 ghost use Rattle.ssl_core.specs.MoreTemplates.{with_made};
 
-use crate::constructors::type_of;
 use crate::given::Given;
+use crate::stands::type_of;
 use crate::templates::Built;
 use rtl_core::Encodings;
 use sqlite_items::Items;
@@ -93,7 +93,7 @@ pub fn add_template(
     ensures gives { OnOk result (shown given.new ≡ with_made (shown given.old) (made_of constructor built)) }
     ensures holds { OnOk result (Holds enc.now given.new) }
 {
-    let kind = type_of(enc, constructor);
+    let kind = type_of(enc, given, constructor);
     let width = built.width;
     given.templates.add(constructor, built)?;
     note_width(&mut given.widths, kind, width);

@@ -1,13 +1,15 @@
-//! Constructors by their names, and their types.
-ghost use Rattle.std.specs.Prelude.{◌≡◌, ◌≤◌, ◌==◌, IfOk, OnOk, length};
+//! Constructors by their names, and a table of their types.
+ghost use Rattle.std.specs.Prelude.{◌≡◌, ◌≤◌, IfOk, OnOk, length, replicate, slice_set};
 ghost use Rattle.rtl_core.specs.declared.encodings.Encodings.{Encodings};
-ghost use Rattle.ssl_rules.specs.Given.{constructors_of, is_of, kinds_of, type_of};
-ghost use Rattle.std.specs.List.{list_any};
+ghost use Rattle.rtl_core.specs.SoundEncodings.{IsSoundEncodings};
+ghost use Rattle.ssl_rules.specs.Given.{constructors_of, kinds_of};
 ghost use Rattle.ssl_core.specs.OwnNames.{constructor_of};
 ghost use Rattle.ssl_core.specs.Kept.{with_new};
 ghost use Rattle.ssl_core.specs.Numbers.{AreNumbered};
+ghost use Rattle.ssl_core.specs.Typing.{AreTyped, IsTypePut};
 
 use rtl_core::{Encodings, OperandKind};
+use sqlite_items::Items;
 use ssl_rules::NameTable;
 use ssl_syntax::SslBody;
 use std::alloc::{AllocError, Global};
@@ -54,28 +56,45 @@ pub fn constructors_of(enc: &Encodings, kind: usize) -> &[u16]
     }
 }
 
-/// Whether a constructor is among these.
-fn is_among(constructors: &[u16], constructor: u16) -> bool
-    ensures { result ≡ list_any (λ d. d == constructor) constructors.now }
+/// Type 0 for each of so many constructors.
+fn no_types(alloc: Global, count: usize) -> Result<Items<usize>, AllocError>
+    ensures { IfOk result (λ types. types ≡ replicate count 0) }
 {
-    for other in constructors {
-        if *other == constructor {
-            return true;
-        }
+    let mut types = Items::new(alloc);
+    for _k in 0..count {
+        types.push(0)?;
     }
-    false
+    Ok(types)
 }
 
-/// The type of a constructor; that of instructions is 0.
-pub fn type_of(enc: &Encodings, constructor: u16) -> usize
-    ensures { result ≡ type_of enc.now constructor }
+/// Puts a type at a constructor, where there is one.
+fn put_type(types: &mut Items<usize>, constructor: usize, kind: usize)
+    ensures { types.new ≡ slice_set types.old constructor kind }
 {
-    for (kind, constructors) in enc.types.as_slice().iter().enumerate() {
-        if is_among(constructors.as_slice(), constructor) {
-            return kind;
-        }
+    if constructor < types.len() {
+        types.set(constructor, kind);
     }
-    0
+}
+
+/// Puts a type at each of its constructors.
+fn put_types(types: &mut Items<usize>, constructors: &[u16], kind: usize)
+    ensures { IsTypePut types.old types.new constructors.now kind }
+{
+    for constructor in constructors {
+        put_type(types, usize::from(*constructor), kind);
+    }
+}
+
+/// For each constructor its type; that of instructions is 0.
+pub fn type_table(alloc: Global, enc: &Encodings) -> Result<Items<usize>, AllocError>
+    requires { IsSoundEncodings enc.now }
+    ensures { IfOk result (λ types. AreTyped enc.now types) }
+{
+    let mut types = no_types(alloc, enc.constructors.len())?;
+    for (kind, constructors) in enc.types.as_slice().iter().enumerate() {
+        put_types(&mut types, constructors.as_slice(), kind);
+    }
+    Ok(types)
 }
 
 /// The constructor that a line names.

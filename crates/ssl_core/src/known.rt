@@ -3,30 +3,34 @@ ghost use Rattle.std.specs.Prelude.{◌≡◌, take};
 ghost use Rattle.std.specs.List.{list_all};
 ghost use Rattle.ssl_rules.specs.Known.{is_known_part};
 ghost use Rattle.ssl_rules.specs.Checks.{is_known, is_known_kind};
-ghost use Rattle.ssl_core.specs.State.{shown};
+ghost use Rattle.ssl_core.specs.State.{shown, Holds};
 ghost use Rattle.ssl_core.specs.OwnNames.{FindSame, constructor_of, own_of};
 ghost use Rattle.ssl_core.specs.Heads.{is_constructor_at, is_head};
 
-use crate::constructors::{constructors_of, kinds_of, type_of};
+use crate::constructors::kinds_of;
 use crate::given::Given;
-use crate::stands::are_made;
+use crate::noting::known_stands;
+use crate::stands::type_of;
 use rtl_core::{Encodings, OperandKind};
 use ssl_checks::{are_known_transfers, is_known_expr, is_known_part};
 use ssl_rules::{LineNames, NameTable, Own, Tables};
 use ssl_syntax::{SslBody, ViewPart};
 
 /// Whether every constructor of an operand's type has a template.
+#[tactic(auto, using(crate::proofs::StoodLemmas::some_known))]
 fn is_known_kind(enc: &Encodings, given: &Given, kind: OperandKind) -> bool
+    requires { Holds enc.now given.now }
     ensures { result ≡ is_known_kind enc.now (shown given.now) kind }
 {
     match kind {
         OperandKind::Field(_) => true,
-        OperandKind::Typed(kind) => are_made(given, constructors_of(enc, usize::from(kind))),
+        OperandKind::Typed(kind) => known_stands(enc, given, usize::from(kind)).is_some(),
     }
 }
 
 /// The same of each of some operands.
 fn are_known_kinds(enc: &Encodings, given: &Given, kinds: &[OperandKind]) -> bool
+    requires { Holds enc.now given.now }
     ensures { result ≡ list_all (is_known_kind enc.now (shown given.now)) kinds.now }
 {
     for kind in kinds {
@@ -46,12 +50,18 @@ fn first_kinds(kinds: &[OperandKind], count: usize) -> &[OperandKind]
 }
 
 /// Whether there is a constructor, and of an instruction or not.
-fn is_constructor(enc: &Encodings, constructor: Option<u16>, instruction: bool) -> bool
+fn is_constructor(
+    enc: &Encodings,
+    given: &Given,
+    constructor: Option<u16>,
+    instruction: bool,
+) -> bool
+    requires { Holds enc.now given.now }
     ensures { result ≡ is_constructor_at enc.now instruction constructor }
 {
     match constructor {
         None => false,
-        Some(constructor) => (type_of(enc, constructor) == 0) == instruction,
+        Some(constructor) => (type_of(enc, given, constructor) == 0) == instruction,
     }
 }
 
@@ -63,9 +73,10 @@ fn is_head(
     instruction: bool,
     count: usize,
 ) -> bool
+    requires { Holds enc.now given.now }
     ensures { result ≡ is_head enc.now (shown given.now) instruction constructor count }
 {
-    is_constructor(enc, constructor, instruction)
+    is_constructor(enc, given, constructor, instruction)
         && are_known_kinds(
             enc,
             given,
@@ -93,6 +104,7 @@ pub fn is_known(
     own: &NameTable<Own>,
     body: &SslBody,
 ) -> bool
+    requires holds { Holds enc.now given.now }
     requires constructor { constructor ≡ constructor_of enc.now body.now }
     requires own { FindSame own.now (own_of enc.now (shown given.now) body.now) }
     ensures { result ≡ is_known enc.now (shown given.now) body.now }

@@ -12,6 +12,7 @@ mod limits;
 mod lines;
 mod machine;
 mod normal;
+mod noting;
 mod once;
 mod own;
 mod ranges;

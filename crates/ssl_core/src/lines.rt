@@ -13,10 +13,11 @@ ghost use Rattle.ssl_core.specs.Functions.{function_in};
 ghost use Rattle.ssl_core.specs.MoreTemplates.{scope_with, with_made};
 
 use crate::building::{add_template, instruction_built, operand_built};
-use crate::constructors::constructor_of;
+use crate::constructors::{constructor_of, kinds_of};
 use crate::faults::body_fault;
 use crate::given::Given;
 use crate::giving::{function_of, give_cell, give_cells, give_function, give_view};
+use crate::noting::note_types;
 use crate::own::own_of;
 use crate::ranges::shape_of;
 use rtl_core::Encodings;
@@ -163,6 +164,38 @@ fn give(
     }
 }
 
+/// Takes a line in, where what the types of its operands stand for is noted.
+fn take_noted(
+    alloc: Global,
+    enc: &Encodings,
+    constructor: Option<u16>,
+    given: &mut Given,
+    line: &SslLine,
+) -> Result<(), SslFault>
+    requires sound { IsSoundEncodings enc.now }
+    requires constructor { constructor ≡ constructor_of enc.now line.now.body }
+    requires holds { Holds enc.now given.old }
+    ensures taken { MatchResult result (λ _. body_fault enc.now (shown given.old) line.now.number line.now.body ≡ None) (λ f. f ≢ SslFault.NoMemory → body_fault enc.now (shown given.old) line.now.number line.now.body ≡ Some f) }
+    ensures gives { OnOk result (shown given.new ≡ with_body enc.now (shown given.old) line.now.body) }
+    ensures holds { OnOk result (Holds enc.now given.new) }
+{
+    let own = own_of(alloc, enc, given, constructor, &line.body)?;
+    let fault = body_fault(
+        alloc,
+        enc,
+        given,
+        constructor,
+        &own,
+        line.number,
+        &line.body,
+    )?;
+    if let Some(fault) = fault {
+        return Err(fault);
+    }
+    give(alloc, enc, given, constructor, &own, &line.body)?;
+    Ok(())
+}
+
 /// Takes a line in, behind those that are given.
 pub fn take_line(
     alloc: Global,
@@ -179,19 +212,6 @@ pub fn take_line(
     ensures holds { OnOk result (Holds enc.now given.new) }
 {
     let constructor = constructor_of(numbers, &line.body);
-    let own = own_of(alloc, enc, given, constructor, &line.body)?;
-    let fault = body_fault(
-        alloc,
-        enc,
-        given,
-        constructor,
-        &own,
-        line.number,
-        &line.body,
-    )?;
-    if let Some(fault) = fault {
-        return Err(fault);
-    }
-    give(alloc, enc, given, constructor, &own, &line.body)?;
-    Ok(())
+    note_types(enc, given, kinds_of(enc, constructor.unwrap_or(0)));
+    take_noted(alloc, enc, constructor, given, line)
 }

@@ -79,7 +79,9 @@ pub fn named_machine(
         windows,
         tables,
         templates,
+        types: _,
         widths: _,
+        stands: _,
     } = given;
     let machine = Machine {
         order: enc.order,

@@ -8,7 +8,7 @@ ghost use Rattle.ssl_core.specs.OwnNames.{constructor_of, own_of};
 
 use crate::constructors::{add_new, kinds_of};
 use crate::given::Given;
-use crate::stands::stands_for;
+use crate::noting::stands_of;
 use rtl_core::{Encodings, OperandKind, Width};
 use sqlite_items::Items;
 use ssl_rules::{NameTable, Own};
@@ -43,7 +43,7 @@ fn add_typed(
     if kind == 0 {
         return Ok(());
     }
-    let stands = stands_for(enc, given, usize::from(kind));
+    let stands = stands_of(enc, given, usize::from(kind));
     add_new(own, name, Own::Typed { operand, stands })
 }
 

@@ -2,7 +2,7 @@
 ghost use Rattle.std.specs.Prelude.{◌≡◌, false, unwrap_or, option_map};
 ghost use Rattle.rtl_core.specs.SoundTemplates.{is_place};
 ghost use Rattle.std.specs.List.{list_all};
-ghost use Rattle.ssl_rules.specs.Given.{has_template, is_place_type, most_of, stands_for, template_for, type_width};
+ghost use Rattle.ssl_rules.specs.Given.{has_template, is_place_type, most_of, stands_for, template_for, type_of, type_width};
 ghost use Rattle.ssl_core.specs.State.{shown, Holds};
 
 use crate::constructors::constructors_of;
@@ -27,6 +27,17 @@ pub fn are_made(given: &Given, constructors: &[u16]) -> bool
         }
     }
     true
+}
+
+/// The type of a constructor; that of instructions is 0.
+pub fn type_of(enc: &Encodings, given: &Given, constructor: u16) -> usize
+    requires { Holds enc.now given.now }
+    ensures { result ≡ type_of enc.now constructor }
+{
+    match given.types.get(usize::from(constructor)) {
+        Some(kind) => *kind,
+        None => 0,
+    }
 }
 
 /// The width of the first template of a type.

@@ -9,10 +9,9 @@ ghost use Rattle.ssl_core.specs.State.{shown, Holds};
 ghost use Rattle.ssl_core.specs.OwnNames.{constructor_of, own_of};
 ghost use Rattle.ssl_core.specs.TypeWidths.{against};
 
-use crate::constructors::type_of;
 use crate::given::Given;
 use crate::ranges::shape_of;
-use crate::stands::type_width;
+use crate::stands::{type_of, type_width};
 use rtl_core::Encodings;
 use ssl_checks::{asked, measure, parts_differ, transfers_differ, windows_differ};
 use ssl_rules::{LineNames, Measure, Mismatch, NameTable, Own};
@@ -50,7 +49,7 @@ fn template_differs(
     ensures { result ≡ option_or (measured (scope names.now) e.now).differs (against (type_width (shown given.now) enc.now (type_of enc.now (unwrap_or constructor 0))) (measured (scope names.now) e.now)) }
 {
     let m = measure(names, e);
-    let kind = type_of(enc, constructor.unwrap_or(0));
+    let kind = type_of(enc, given, constructor.unwrap_or(0));
     or(m.differs, against(type_width(enc, given, kind), m))
 }
 

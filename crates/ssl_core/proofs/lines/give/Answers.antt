@@ -1,4 +1,4 @@
-use Rattle.std.proofs.Common.{sym, ap, subst, map, ◌∙◌, unwrap_or}
+use Rattle.std.proofs.Common.{refl, sym, ap, subst, map, ◌∙◌, unwrap_or}
 use Rattle.std.proofs.lemmas.Result.{on_ok_weaker}
 use Rattle.ssl_rules.specs.Given.{part_of}
 use Rattle.ssl_core.specs.State.{AreCellsNamed, shown}
@@ -8,7 +8,7 @@ use Rattle.ssl_core.specs.MoreTemplates.{scope_with}
 use Rattle.ssl_core.specs.OwnNames.{constructor_of, own_of}
 use Rattle.ssl_core.proofs.FineLemmas.{fine_instruction}
 use Rattle.ssl_core.proofs.GrowthLemmas.{cell_named, cells_named, function_named, view_named}
-use Rattle.ssl_core.proofs.StateLemmas.{tables_hold}
+use Rattle.ssl_core.proofs.StateLemmas.{state_holds, tables_hold}
 use Rattle.ssl_core.proofs.lines.give.Goals as goal
 
 pub give_instruction-requires-clause-fine : goal.give_instruction-requires-clause-fine
@@ -50,3 +50,15 @@ returns-in-Function-clause-holds c =
     (subst AreCellsNamed (sym e)
     (function_named old c.as_slice-in-Function.result.now (function_in (scope_with old c.args.own.now) c.as_slice-in-Function-2.result.now c.in-Function.body) c.requires.holds.cells)))
     c.give_function_line.ensures
+
+pub returns-in-Align-clause-holds : goal.returns-in-Align-clause-holds
+returns-in-Align-clause-holds c = state_holds c.args.enc.now c.args.given.now _ c.requires.holds c.requires.holds.cells refl refl refl refl
+
+pub returns-in-Delay-clause-holds : goal.returns-in-Delay-clause-holds
+returns-in-Delay-clause-holds c = state_holds c.args.enc.now c.args.given.now _ c.requires.holds c.requires.holds.cells refl refl refl refl
+
+pub returns-in-Zero-clause-holds : goal.returns-in-Zero-clause-holds
+returns-in-Zero-clause-holds c = state_holds c.args.enc.now c.args.given.now _ c.requires.holds c.requires.holds.cells refl refl refl refl
+
+pub returns-in-Windows-clause-holds : goal.returns-in-Windows-clause-holds
+returns-in-Windows-clause-holds c = state_holds c.args.enc.now c.args.given.now _ c.requires.holds c.requires.holds.cells refl refl refl refl

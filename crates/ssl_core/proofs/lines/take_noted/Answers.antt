@@ -2,7 +2,7 @@ use Rattle.std.proofs.Common.{sym, ◌∙◌}
 use Rattle.ssl_core.specs.State.{shown}
 use Rattle.ssl_core.proofs.FineLemmas.{fine_line}
 use Rattle.ssl_core.proofs.OwnLemmas.{once_own}
-use Rattle.ssl_core.proofs.lines.take_line.Goals as goal
+use Rattle.ssl_core.proofs.lines.take_noted.Goals as goal
 
 pub give-requires-clause-own : goal.give-requires-clause-own
 give-requires-clause-own c =
