@@ -58,6 +58,7 @@ translates : (on : Bundle) (segments : List CSeg) (n entry : ℕ) (p : Program) 
 translates on segments n entry p bundle fits ends is law parts are short = record {
   same = text_is_same on segments n entry p bundle fits is parts are ends;
   spelled = text_has_spelling on segments n entry p bundle fits is short;
+  addresses = text_has_addresses on segments n entry p bundle fits is;
   only = λ text other numbers this that. law text other p numbers (text_has_addresses on segments n entry p bundle fits is) that this;
 }
 

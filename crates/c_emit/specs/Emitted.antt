@@ -46,11 +46,12 @@ text_of setting segments n entry = record (line_program lowering (line_temporari
 abbrev pub AreShortSegments : List CSeg → Type 0
 AreShortSegments segments = All (λ s. length s.bytes ≤ 2 ^ 32 - 1) segments
 
--- A translation of an image: the C program is the same as the machine, it can be spelled, and no other program has
--- a text of it.
+-- A translation of an image: the C program is the same as the machine, it can be spelled, and no other program whose
+-- numbers in names have 32 bits, as its own have, has a text of it.
 pub record IsTranslation (setting : Setting) (parts : List Part) (entry : ℕ) (p : Program) : Type 0 where
   pub same : IsSame p setting parts entry
   pub spelled : HasSpelling p
+  pub addresses : HasAddresses p
   pub only : (text : List ℕ) (other : Program) → HasAddresses other → Spells text p → Spells text other → other ≡ p
 
 -- it is one of each image whose parts are these segments, where they are short

@@ -1,5 +1,5 @@
 -- The C text of a line of instructions, where no jump goes anywhere: one function with every cell
--- but the zero cell as a parameter, and one block for each instruction.
+-- but the zero cell as a parameter, and one block for each address.
 use Rattle.std.specs.Prelude.{ℕ, zero, suc, ◌+◌, ◌==◌, ◌&&◌, not, nat_lt, Bool, true, false, if◌then◌else◌, List, [], ◌∷◌, ◌++◌, length, map, filter, slice_index, is_some, is_none, Option, Some, None}
 use Rattle.std.specs.List.{list_any}
 use Rattle.rtl_core.specs.declared.conv.Conv.{Conv}

@@ -17,7 +17,7 @@ pub record OnLine (setting : Setting) (n entry pc : ℕ) (inst : GroundInst) : T
   pub on : has (line setting n entry) pc ≡ true
   pub stands : standing setting pc ≡ Stands inst
 
--- a line of at most n instructions, each of which is lowered within `most` steps and so many temporaries
+-- a line of at most n addresses, each instruction of which is lowered within `most` steps and so many temporaries
 pub record IsSoundLine (low : Lowering) (temps most : ℕ) (setting : Setting) (n entry : ℕ) : Type 0 where
   pub widths : AreWidths setting.machine.widths
   pub conv : IsSoundConv setting.conv
@@ -38,7 +38,7 @@ LinesAreSame = (low : Lowering) (temps most : ℕ) (setting : Setting) (parts : 
 abbrev pub lowering : Lowering
 lowering m pc ts = lowered m pc ts []
 
--- a line of at most n instructions of a sound triple that takes at most so many temporaries
+-- a line of at most n addresses of a sound triple that takes at most so many temporaries
 pub record IsStraightLine (temps : ℕ) (setting : Setting) (n entry : ℕ) : Type 0 where
   pub sound : AreSoundTogether setting.encodings setting.machine setting.conv
   pub entry_fits : entry < 2 ^ 32

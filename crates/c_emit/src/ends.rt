@@ -1,4 +1,4 @@
-//! Whether a line ends within some instructions, without its text.
+//! Whether a line ends within some addresses, without its text.
 ghost use Rattle.std.specs.Prelude.{◌≡◌, IfOk};
 ghost use Rattle.points.specs.Machine.{standing};
 ghost use Rattle.c_emit.specs.Emitted.{setting_of, IsSoundBundle};
@@ -9,7 +9,7 @@ use decode::{Bundle, Found, inst_at};
 use rtl_core::try_ground;
 use std::alloc::{AllocError, Global};
 
-/// Whether the line from `entry` on has at most `most` instructions. An error is a want of memory.
+/// Whether the line from `entry` on has at most `most` addresses, its end counted. An error is a want of memory.
 #[tactic(auto, using(crate::proofs::LineLaws::no_more_ends, crate::proofs::LineLaws::ends_ended))]
 pub fn line_ends(alloc: Global, on: &Bundle, most: usize, entry: u32) -> Result<bool, AllocError>
     requires { IsSoundBundle on.now }

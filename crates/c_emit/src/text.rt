@@ -13,7 +13,7 @@ use sqlite_items::Items;
 use std::alloc::{AllocError, Global};
 
 /// The C text of the line from `entry` on over a first memory of these segments, or None exactly where the line has
-/// more than `most` instructions: one function with every cell but the zero cell as a parameter. Where no segment is
+/// more than `most` addresses, its end counted: one function with every cell but the zero cell as a parameter. Where no segment is
 /// too long for an array, the text is a translation: it is the same as the machine, it can be spelled, and no other
 /// program has its text. An error is a want of memory.
 pub fn line_program(

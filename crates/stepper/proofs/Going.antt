@@ -12,7 +12,7 @@ use Rattle.edge_io.specs.Counts.{counted}
 use Rattle.edge_io.specs.Output.{Output, TookPart}
 use Rattle.edge_io.specs.Told.{followed}
 use Rattle.stepper.specs.Shown.{Shown, IsReady, state_of, moment}
-use Rattle.stepper.specs.Ran.{ran, written, Came, Took, TookPrefix, end_after, AddsWritten, TellsStop}
+use Rattle.stepper.specs.Ran.{ran, written, Came, Took, TookPrefix, end_after, AddsWritten, TellsStop, MadeSome}
 use Rattle.stepper.proofs.Stretches.{Extends, output_in, take-front, stays, front-of}
 
 -- ---- told bytes
@@ -180,3 +180,13 @@ module _ (old now : Shown) (a b : Output) (i : ℕ) (g : Gone old now a b i) whe
           within = omega (arith, ap length e.is, length-append w e.rest);
           taken = g.taken ∙ ap (followed a.taken) (sym (ap (take (length w)) e.is ∙ take-front w e.rest));
         }
+
+-- some steps went, and there was no memory for the next one
+pub made-some : (old now new : Shown) (a b c : Output) (i n : ℕ) → i < n → Gone old now a b i → new ≡ now → c ≡ b → MadeSome old new n a c
+made-some old now new a b c i n below g same kept = record {
+  steps = i;
+  within = omega (arith, below);
+  came = subst (λ s. Came Spent old s i) (sym same) g.came;
+  took = ap (λ o. o.taken) kept ∙ g.taken;
+  ready = subst IsReady (sym same) g.ready;
+}

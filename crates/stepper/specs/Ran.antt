@@ -8,7 +8,7 @@ use Rattle.rtl_core.specs.declared.stop.Stop.{Stop}
 use Rattle.points.specs.Machine.{MNext, step}
 use Rattle.edge_io.specs.Output.{Output, TookPart}
 use Rattle.edge_io.specs.Told.{followed}
-use Rattle.stepper.specs.Shown.{Shown, state_of}
+use Rattle.stepper.specs.Shown.{Shown, IsReady, state_of}
 
 -- where the machine is n steps after a guest's state, with this output before
 abbrev pub ran : Shown → ℕ → List ℕ → MNext
@@ -44,6 +44,14 @@ pub record TookPrefix (old new : Output) (bytes : List ℕ) : Type 0 where
   pub count : ℕ
   pub within : count ≤ length bytes
   pub taken : new.taken ≡ followed old.taken (take count bytes)
+
+-- memory ran out behind some whole steps, whose output was put out, and the guest can go on from there
+pub record MadeSome (old new : Shown) (n : ℕ) (out out' : Output) : Type 0 where
+  pub steps : ℕ
+  pub within : steps ≤ n
+  pub came : Came Spent old new steps
+  pub took : out'.taken ≡ followed out.taken (written old steps)
+  pub ready : IsReady new
 
 -- what a sink took of the output of a run: all of it, unless it failed
 abbrev pub Took : RunEnd → Output → Output → List ℕ → Type 0

@@ -4,7 +4,7 @@ ghost use Rattle.rtl_core.specs.declared.stop.RunEnd.TheVariants.{Spent};
 ghost use Rattle.points.specs.Machine.{first_state, step as next_of};
 ghost use Rattle.space.specs.Ranges.{memory_of};
 ghost use Rattle.stepper.specs.Shown.{Shown, IsReady, IsSoundSetting, setting_of, state_of, moment};
-ghost use Rattle.stepper.specs.Ran.{Came, TellsStop, Took, TookPrefix, AddsWritten, written, end_after};
+ghost use Rattle.stepper.specs.Ran.{Came, MadeSome, TellsStop, Took, TookPrefix, AddsWritten, written, end_after};
 
 use crate::one_step::advance;
 use crate::run_state::{RunState, first_parts};
@@ -113,11 +113,12 @@ impl<'a> Guest<'a> {
     ///
     /// `Stopped` comes exactly where the machine stops within `n` steps, with its stop, and `Spent` exactly where it doesn't; then the
     /// guest can go on. `WriteFault` comes only where the sink failed, and the guest is not run again then. At an `Err` there was no
-    /// memory.
+    /// memory for an instruction: the guest stands before it, what was written before it went out, and it can go on.
     pub fn run<K: Sink>(&mut self, n: u64, out: &mut K) -> Result<RunEnd, AllocError>
         requires { IsReady self.old }
         ensures came { IfOk result (λ end. Came end self.old self.new n) }
         ensures took { IfOk result (λ end. Took end (K.output out.old) (K.output out.new) (written self.old n)) }
+        ensures some { OnErr result (MadeSome self.old self.new n (K.output out.old) (K.output out.new)) }
         ensures front { OnErr result (TookPrefix (K.output out.old) (K.output out.new) (written self.old n)) }
         ensures later { (K.output out.old).faults ≤ (K.output out.new).faults }
         ensures setting { self.new.setting ≡ self.old.setting }
@@ -145,6 +146,7 @@ impl<'a> Guest<'a> {
         ensures stopped { IfOk result (λ end. TellsStop end self.new) }
         ensures adds { IfOk result (λ _. AddsWritten self.old 1) }
         ensures err { OnErr result (out.new ≡ out.old) }
+        ensures kept { OnErr result (self.new ≡ self.old) }
     {
         let stop = self.step()?;
         match put_all(out, self.pending()) {

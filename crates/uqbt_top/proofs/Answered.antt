@@ -66,6 +66,10 @@ pub check_caused : (words : List (List ℕ)) (word sled ssl conv : List ℕ) (a 
     → bytes_eq word (codes "check") ≡ true → told ≡ o → CommandCaused (Check sled ssl conv) a o → Caused words a told
 check_caused words word sled ssl conv a told o is at same did = rw (same, is, at) did
 
+pub check_refusal : (words : List (List ℕ)) (word sled ssl conv : List ℕ) (told : Outcome) (P : Type 0) → words ≡ word ∷ sled ∷ ssl ∷ conv ∷ []
+    → bytes_eq word (codes "check") ≡ true → P → OnRefusal (command_of words) told P
+check_refusal words word sled ssl conv told P is at p = rw (is, at) p
+
 not_false : (b : Bool) → not b ≡ false → b ≡ true
 not_false true h = refl
 not_false false h = sym h

@@ -107,7 +107,7 @@ line_told d i e told v same ends is = ap (λ x. ends_within (setting_by x d i) m
 -- why an image has no program is why its executable is refused
 pub is_refused : (t : Descriptions) (exe : List ℕ) (d : Described) (i : Image) (o : Outcome) → AreOf t d → IsImageOf d exe i → IsLong d i o → IsRefused t exe o
 is_refused t exe d i (Executable (TooLarge points)) of loaded long =
-    record { described = d; of = of; first = record { image = i; loaded = loaded; long = long.1; told = long.0 } }
+    record { described = d; of = of; first = record { image = i; loaded = loaded; over = long } }
 is_refused t exe d i (Executable (InElf fault)) of loaded long = absurd long
 is_refused t exe d i (Executable (AreaOverlap index)) of loaded long = absurd long
 is_refused t exe d i NoMemory of loaded long = tt

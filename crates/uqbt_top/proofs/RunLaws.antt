@@ -1,16 +1,24 @@
 -- What a run of the machine shows, and how the answers of `run` follow from it.
-use Rattle.std.proofs.Common.{◌≡◌, ◌⊎◌, inl, inr, ℕ, Bool, true, List, [], refl, sym, ap, ◌∙◌, subst}
-use Rattle.std.specs.Prelude.{Result, Ok, Err, IfOk, IfErr, OnErr}
+use Rattle.std.proofs.Common.{◌≡◌, ◌⊎◌, inl, inr, ℕ, ◌+◌, ◌-◌, Bool, true, false, List, [], ◌++◌, length, map, Some, refl, sym, ap, ◌∙◌, subst, arith}
+use Rattle.std.proofs.Math.Path.{fun_ext}
+use Rattle.std.proofs.lemmas.Bool.{le-ltb, leb-true}
+use Rattle.std.specs.Prelude.{nat_le, nat_lt, ◌&&◌, if◌then◌else◌, slice_index, Result, Ok, Err, IfOk, IfErr, OnErr}
 use Rattle.lockstep.specs.Runs.{Goes, Ends, View, after, machine_view, HasOutput}
 use Rattle.lockstep.specs.Meets.{next_out}
 use Rattle.edge_io.specs.Input.{Input}
 use Rattle.edge_io.specs.Output.{Output}
-use Rattle.rtl_core.specs.Contents.{Contents}
+use Rattle.rtl_core.specs.Contents.{Contents, Held}
+use Rattle.rtl_core.specs.FirstMemory.{areas, parts_memory, with_block}
+use Rattle.rtl_core.specs.declared.conv.Conv.{Conv}
 use Rattle.rtl_core.specs.declared.encodings.Encodings.{Encodings}
 use Rattle.rtl_core.specs.declared.stop.Stop.{Stop}
 use Rattle.rtl_core.specs.declared.stop.RunEnd.{RunEnd}
 use Rattle.rtl_core.specs.declared.stop.RunEnd.TheVariants as end
 use Rattle.points.specs.Machine.{Setting, State, MNext, step, first_state, machine_run}
+use Rattle.elf32.specs.declared.elf.Elf.{Elf}
+use Rattle.space.specs.Ranges.{memory_of}
+use Rattle.load_image.specs.Made.{image_of}
+use Rattle.load_image.specs.Mapped.{AreBuildable, segment_part}
 use Rattle.load_image.specs.declared.image.Image.{Image}
 use Rattle.c_emit.specs.Line.{ends_within}
 use Rattle.descriptions.specs.declared.described.Described.{Described}
@@ -19,8 +27,8 @@ use Rattle.stepper.specs.Ran.{ran, written, Came, Took, TookPrefix}
 use Rattle.uqbt_top.specs.declared.outcome.ExeFault.TheVariants.{Elf as InElf, AreaOverlap, TooLarge}
 use Rattle.uqbt_top.specs.declared.outcome.Outcome.{Outcome}
 use Rattle.uqbt_top.specs.declared.outcome.Outcome.TheVariants.{Done, Ran, Spent, Usage, Description, Executable, InputTooLong, FileTooLong, NoMemory, WriteFault, ReadFault}
-use Rattle.uqbt_top.specs.Built.{Descriptions, AreOf, AreRefused, IsExeFault, IsImageOf, IsRefusedExe, setting_with, most_points}
-use Rattle.uqbt_top.specs.Running.{BrokeOff, IsInput, IsUntouched, LineRan, LoadedRan, MachineRan, NoInput, RunDid, StoppedSo, TookSome, WentOn, WithImage, image_memory, outcome_of_run, seen}
+use Rattle.uqbt_top.specs.Built.{Descriptions, AreOf, AreRefused, IsExeFault, IsImageOf, IsRefusedExe, setting_with, parts_of, most_points}
+use Rattle.uqbt_top.specs.Running.{BrokeOff, HasMemory, IsInput, IsUntouched, LineRan, LoadedRan, MachineRan, NoInput, RunDid, StoppedSo, TookSome, WentOn, WithImage, image_memory, no_block, outcome_of_run, seen}
 use Rattle.stepper.proofs.Going.{took-none}
 use Rattle.uqbt_top.proofs.BuiltLaws.{setting_by}
 
@@ -62,6 +70,26 @@ pub took_some : (old : Shown) (n : ℕ) (view : View Stop) (out out' : Output) �
 took_some old n view out out' v took = record { written = written old n; shown = shown-by old n view v; took = took }
 
 -- ---- an image
+
+-- where no bytes stand in the stack the first memory is that of the parts alone
+pub no_block_put : (conv : Conv) (m : Contents) → with_block (no_block conv) m ≡ m
+unfolding with_block
+no_block_put conv m = fun_ext (λ a. by a (nat_le conv.stack_base a) refl)
+  where
+    by : (a : ℕ) (b : Bool) → nat_le conv.stack_base a ≡ b
+        → (if b && nat_lt a (conv.stack_base + length {A = ℕ} []) then Some (record { byte = slice_index [] (a - conv.stack_base); writes = true }) else m a) ≡ m a
+    by a false e = refl
+    by a true e =
+        let none : length {A = ℕ} [] ≡ 0 = refl in
+        rw (le-ltb a (conv.stack_base + length {A = ℕ} []) (omega (arith, none, leb-true conv.stack_base a e))) refl
+
+-- the ranges of an image make its first memory
+pub image_has_memory : (d : Described) (i : Image) (elf : Elf) → i ≡ image_of elf d.conv → AreBuildable i.ranges
+    → memory_of i.ranges ≡ parts_memory (map segment_part elf.segments ++ areas d.conv) → HasMemory d i
+image_has_memory d i elf is buildable m = record {
+  buildable = buildable;
+  memory = m ∙ ap (λ ss. parts_memory (map segment_part ss ++ areas d.conv)) (sym (ap (λ x. x.segments) is)) ∙ sym (no_block_put d.conv (parts_memory (parts_of i ++ areas d.conv)));
+}
 
 -- the input isn't had
 pub no_input_ran : (d : Described) (i : Image) (n : ℕ) (input input' : Input) (out : Output) (o : Outcome) → ends_within (setting_with d i) most_points i.entry ≡ true → NoInput input input' o
@@ -140,7 +168,7 @@ module _ (t : Descriptions) (exe : List ℕ) (d : Described) (i : Image) (n : �
   -- what was done with an image was done with its file
   pub loaded_ran : (o : Outcome) → LoadedRan d i n input input' out out' o → RunDid t exe n input input' out out' o
   loaded_ran (Executable (TooLarge points)) did =
-      (record { described = d; of = of; first = record { image = i; loaded = loaded; long = did.1; told = did.0 } }, did.2)
+      (record { described = d; of = of; first = record { image = i; loaded = loaded; over = did.0 } }, did.1)
   loaded_ran (Executable (InElf fault)) did = absurd did.did
   loaded_ran (Executable (AreaOverlap index)) did = absurd did.did
   loaded_ran NoMemory did = by_memory did

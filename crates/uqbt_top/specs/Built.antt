@@ -69,12 +69,15 @@ pub record Overlaps (d : Described) (exe : List ℕ) (index : ℕ) : Type 0 wher
   pub read : elf_of exe d.conv d.named.machine.order ≡ Ok elf
   pub first : overlap_fault d.conv elf.segments ≡ Some (image.AreaOverlap index)
 
--- the entry's procedure has more points than are built
+-- the line from the entry has more points than are built, and this number is told
+abbrev pub IsOver : Described → Image → ℕ → Type 0
+IsOver d i points = (points ≡ 131073) × (ends_within (setting_with d i) most_points i.entry ≡ false)
+
+-- the executable has an image that is so
 pub record IsTooLarge (d : Described) (exe : List ℕ) (points : ℕ) : Type 0 where
   pub image : Image
   pub loaded : IsImageOf d exe image
-  pub long : ends_within (setting_with d image) most_points image.entry ≡ false
-  pub told : points ≡ 131073
+  pub over : IsOver d image points
 
 -- the first fault of an executable
 abbrev pub IsExeFault : Described → List ℕ → ExeFault → Type 0
@@ -130,6 +133,6 @@ IsRefused t exe _ = ⊥
 
 -- why an image has no program, by the answer
 abbrev pub IsLong : Described → Image → Outcome → Type 0
-IsLong d i (Executable (TooLarge points)) = (points ≡ 131073) × (ends_within (setting_with d i) most_points i.entry ≡ false)
+IsLong d i (Executable (TooLarge points)) = IsOver d i points
 IsLong d i NoMemory = Unit {0}
 IsLong d i _ = ⊥

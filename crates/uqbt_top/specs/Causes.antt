@@ -145,16 +145,17 @@ Caused words a outcome =
 
 -- ---- what stays
 
--- a fact of `translate` and `check` for the answers before the output
+-- a fact of `translate` for the answers before the output
 abbrev pub KeepsOut : Outcome → Type 0 → Type 0
 KeepsOut Done kept = Unit {0}
 KeepsOut WriteFault kept = Unit {0}
 KeepsOut _ kept = kept
 
--- a fact for the answers before the output
+-- a fact for the answers before the output; `check` puts nothing out
 abbrev pub OnRefusal : Option Command → Outcome → Type 0 → Type 0
+OnRefusal (Some (Translate sled ssl conv exe)) outcome kept = KeepsOut outcome kept
 OnRefusal (Some (Run sled ssl conv exe steps)) outcome kept = RunKeepsOut outcome kept
-OnRefusal _ outcome kept = KeepsOut outcome kept
+OnRefusal _ outcome kept = kept
 
 -- a fact for the answers before the input; only `run` takes any
 abbrev pub OnNoInput : Option Command → Outcome → Type 0 → Type 0

@@ -1,12 +1,13 @@
 -- What `run` does with a machine and its image, by the answer.
-use Rattle.std.specs.Prelude.{◌≡◌, ◌⊎◌, ℕ, ◌≤◌, ◌<◌, true, false, List, ◌++◌, length, Result, Ok, Err}
+use Rattle.std.specs.Prelude.{◌≡◌, ◌⊎◌, ℕ, ◌≤◌, ◌<◌, true, List, length, Result, Ok, Err, []}
 use Rattle.lockstep.specs.Runs.{View, Running, Stopped, HasOutput}
 use Rattle.edge_io.specs.Counts.{Rose}
 use Rattle.edge_io.specs.Told.{IsNothing, followed}
 use Rattle.edge_io.specs.Input.{Input, Gave}
 use Rattle.edge_io.specs.Output.{Output, TookPart}
 use Rattle.rtl_core.specs.Contents.{Contents}
-use Rattle.rtl_core.specs.FirstMemory.{parts_memory, areas}
+use Rattle.rtl_core.specs.FirstMemory.{Block, first_memory}
+use Rattle.rtl_core.specs.declared.conv.Conv.{Conv}
 use Rattle.rtl_core.specs.declared.stop.Stop.{Stop}
 use Rattle.rtl_core.specs.declared.stop.RunEnd.{RunEnd}
 use Rattle.rtl_core.specs.declared.stop.RunEnd.TheVariants as end
@@ -15,18 +16,23 @@ use Rattle.space.specs.Ranges.{memory_of}
 use Rattle.load_image.specs.Mapped.{AreBuildable}
 use Rattle.load_image.specs.declared.image.Image.{Image}
 use Rattle.c_emit.specs.Line.{ends_within}
+use Rattle.c_emit.specs.Same.{AreBytes}
 use Rattle.descriptions.specs.declared.described.Described.{Described}
 use Rattle.stepper.specs.Ran.{TookPrefix}
 use Rattle.uqbt_top.specs.declared.outcome.ExeFault.TheVariants.{TooLarge}
 use Rattle.uqbt_top.specs.declared.outcome.Outcome.{Outcome}
 use Rattle.uqbt_top.specs.declared.outcome.Outcome.TheVariants.{Description, Executable, NoMemory, Ran, Spent, InputTooLong, WriteFault, ReadFault}
-use Rattle.uqbt_top.specs.Built.{Descriptions, IsFirstFault, IsRunnable, IsUnusable, setting_with, parts_of, most_points}
+use Rattle.uqbt_top.specs.Built.{Descriptions, IsFirstFault, IsOver, IsRunnable, IsUnusable, setting_with, parts_of, most_points}
 
 -- ---- the machine
 
--- the memory before the first instruction: the segments, the heap and the stack
+-- no bytes in the stack
+abbrev pub no_block : Conv → Block
+no_block conv = record { place = conv.stack_base; bytes = [] }
+
+-- the memory before the first instruction: the segments, the heap and the stack, as for a translation
 abbrev pub image_memory : Described → Image → Contents
-image_memory d i = parts_memory (parts_of i ++ areas d.conv)
+image_memory d i = first_memory (parts_of i) d.conv (no_block d.conv)
 
 -- it can be built of the ranges of the image
 pub record HasMemory (d : Described) (i : Image) : Type 0 where
@@ -62,6 +68,7 @@ pub record InputFailed (input input' : Input) : Type 0 where
 
 -- these bytes are the whole input, and they are no more than it may have
 pub record IsInput (input input' : Input) (bytes : List ℕ) : Type 0 where
+  pub are_bytes : AreBytes bytes
   pub came : CameWithin input input' bytes
   pub end : IsNothing input'.left
 
@@ -136,8 +143,7 @@ IsUntouched input input' out out' = (input' ≡ input) × (out' ≡ out)
 
 -- the same by the answer, or why it was not
 abbrev pub LoadedRan : Described → Image → ℕ → Input → Input → Output → Output → Outcome → Type 0
-LoadedRan d i n input input' out out' (Executable (TooLarge points)) =
-    (points ≡ 131073) × (ends_within (setting_with d i) most_points i.entry ≡ false) × (input' ≡ input)
+LoadedRan d i n input input' out out' (Executable (TooLarge points)) = IsOver d i points × (input' ≡ input)
 LoadedRan d i n input input' out out' NoMemory = IsUntouched input input' out out' ⊎ LineRan d i n input input' out out' NoMemory
 LoadedRan d i n input input' out out' outcome = LineRan d i n input input' out out' outcome
 

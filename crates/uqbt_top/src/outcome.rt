@@ -68,7 +68,7 @@ pub enum Outcome {
     InputTooLong,
     /// No memory was found.
     NoMemory,
-    /// Standard output failed.
+    /// The output failed.
     WriteFault,
     /// A file or the input could not be read.
     ReadFault,

@@ -1,5 +1,5 @@
 // The command `run` over files, a source and sinks in memory.
-use crate::tests::{EXE, FINE, Texts, answer, plainly, sink};
+use crate::tests::{EXE, FINE, Texts, answer, plainly, sink, source};
 use crate::{ExeFault, Outcome};
 use edge_io::MemSink;
 use elf32::ElfFault;
@@ -35,7 +35,7 @@ fn run_code(
         b"abcd",
         steps,
         &texts,
-        input.to_vec(alloc)?,
+        &mut source(alloc, input, Vec::new(alloc))?,
         out,
         messages,
     )
@@ -109,6 +109,29 @@ fn input_of_over_sixteen_mebibytes_is_too_long(rt: HostRuntime) -> Result<(), Fa
     assert_eq!(rt; got, Outcome::InputTooLong);
     assert_eq!(rt; got.status(), 68);
     assert_eq!(rt; messages.bytes(), b"uqbt: input-too-long\n".as_slice());
+    Ok(())
+}
+
+#[test]
+fn input_that_fails_is_a_read_fault(rt: HostRuntime) -> Result<(), Fail> {
+    let alloc = rt.alloc();
+    let mut fails = Vec::new(alloc);
+    fails.push(1)?;
+    let mut input = source(alloc, b"abc", fails)?;
+    let mut out = sink(alloc)?;
+    let mut messages = sink(alloc)?;
+    let got = answer(
+        alloc,
+        b"run",
+        b"abcd",
+        b"3",
+        &FINE,
+        &mut input,
+        &mut out,
+        &mut messages,
+    )?;
+    assert_eq!(rt; got, Outcome::ReadFault);
+    assert_eq!(rt; messages.bytes(), b"uqbt: read-fault\n".as_slice());
     Ok(())
 }
 
@@ -204,7 +227,7 @@ fn damaged_executables_are_told_by_their_first_fault(rt: HostRuntime) -> Result<
             b"abcd",
             b"3",
             &texts,
-            Vec::new(alloc),
+            &mut source(alloc, b"", Vec::new(alloc))?,
             &mut out,
             &mut messages,
         )?;

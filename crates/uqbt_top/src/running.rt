@@ -4,6 +4,7 @@ ghost use Rattle.rtl_core.specs.SoundConv.{AreSoundTogether};
 ghost use Rattle.points.specs.Machine.{machine_run};
 ghost use Rattle.space.specs.Ranges.{memory_of};
 ghost use Rattle.load_image.specs.Mapped.{AreBuildable};
+ghost use Rattle.c_emit.specs.Same.{AreBytes};
 ghost use Rattle.stepper.specs.Shown.{IsSoundSetting, setting_of};
 ghost use Rattle.uqbt_top.specs.Built.{IsReady};
 ghost use Rattle.uqbt_top.specs.Causes.{RunRead};
@@ -94,12 +95,20 @@ fn whole_input<S: Source>(alloc: Global, input: &mut S) -> Result<Vec<u8>, Outco
     ensures refused { IfErr result (NoInput (S.input input.old) (S.input input.new)) }
 {
     match read_all(alloc, input, MOST_INPUT) {
-        Ok(bytes) => Ok(bytes),
+        Ok(bytes) => {
+            are_bytes(bytes.as_slice());
+            Ok(bytes)
+        }
         Err(ReadEnd::Fault) => Err(Outcome::ReadFault),
         Err(ReadEnd::TooLong) => Err(Outcome::InputTooLong),
         Err(ReadEnd::NoMemory) => Err(Outcome::NoMemory),
     }
 }
+
+/// The items of a slice of bytes are below 256.
+fn are_bytes(bytes: &[u8])
+    ensures { AreBytes bytes.now }
+{}
 
 /// Runs a machine from its first instruction on, over a memory of ranges.
 fn run_guest<K: Sink>(

@@ -70,14 +70,18 @@ pub fn answer(
     letters: &[u8],
     steps: &[u8],
     texts: &Texts<'_>,
-    input: Vec<u8>,
+    input: &mut MemSource,
     out: &mut MemSink,
     messages: &mut MemSink,
 ) -> Result<Outcome, Fail> {
     let words = words(alloc, command, letters, steps)?;
     let mut files = store(alloc, texts)?;
-    let mut input = MemSource::new(input, 4096, Vec::new(alloc));
-    Ok(uqbt_main(alloc, &words, &mut files, &mut input, out, messages))
+    Ok(uqbt_main(alloc, &words, &mut files, input, out, messages))
+}
+
+// A source of these bytes, of which the takes of these numbers fail.
+pub fn source(alloc: Global, bytes: &[u8], fails: Vec<u64>) -> Result<MemSource, Fail> {
+    Ok(MemSource::new(bytes.to_vec(alloc)?, 4096, fails))
 }
 
 pub fn sink(alloc: Global) -> Result<MemSink, Fail> {
@@ -98,7 +102,7 @@ pub fn plainly(
         letters,
         steps,
         texts,
-        Vec::new(alloc),
+        &mut source(alloc, b"", Vec::new(alloc))?,
         &mut sink(alloc)?,
         &mut sink(alloc)?,
     )
@@ -241,7 +245,7 @@ fn the_line_of_an_answer_is_told(rt: HostRuntime) -> Result<(), Fail> {
         b"abc",
         b"",
         &texts,
-        Vec::new(alloc),
+        &mut source(alloc, b"", Vec::new(alloc))?,
         &mut out,
         &mut messages,
     )?;
@@ -261,7 +265,7 @@ fn the_line_of_an_answer_is_told(rt: HostRuntime) -> Result<(), Fail> {
         b"abc",
         b"",
         &texts,
-        Vec::new(alloc),
+        &mut source(alloc, b"", Vec::new(alloc))?,
         &mut out,
         &mut messages,
     )?;
@@ -316,7 +320,7 @@ fn a_full_output_is_a_write_fault(rt: HostRuntime) -> Result<(), Fail> {
             b"abcd",
             b"",
             &FINE,
-            Vec::new(alloc),
+            &mut source(alloc, b"", Vec::new(alloc))?,
             &mut out,
             &mut messages
         )?,

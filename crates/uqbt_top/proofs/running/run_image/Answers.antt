@@ -9,7 +9,7 @@ use Rattle.uqbt_top.proofs.running.run_image.Goals as goal
 
 pub returns-then-not-branch-clause-did : goal.returns-then-not-branch-clause-did
 returns-then-not-branch-clause-did g c =
-    (refl, line_told c.args.on.now c.args.image.now c.in_ok-matcher.matcher c.in_ok-line_ends.field-0 false c.in_ok-matcher.ensures c.in_ok-line_ends.ensures c.if-not-branch.true, refl)
+    ((refl, line_told c.args.on.now c.args.image.now c.in_ok-matcher.matcher c.in_ok-line_ends.field-0 false c.in_ok-matcher.ensures c.in_ok-line_ends.ensures c.if-not-branch.true), refl)
 
 pub returns-in_err-bytes-clause-did : goal.returns-in_err-bytes-clause-did
 returns-in_err-bytes-clause-did g c =

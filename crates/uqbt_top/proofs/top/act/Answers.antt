@@ -1,9 +1,9 @@
-use Rattle.std.proofs.Common.{◌≡◌, sym, ◌∙◌, arith}
+use Rattle.std.proofs.Common.{◌≡◌, refl, sym, ◌∙◌, arith}
 use Rattle.std.specs.Prelude.{codes}
 use Rattle.uqbt_top.specs.Running.{outcome_of_run}
 use Rattle.uqbt_top.specs.Causes.{outcome_of}
 use Rattle.uqbt_top.proofs.BuiltLaws.{four_texts}
-use Rattle.uqbt_top.proofs.Answered.{five_words, six_words, run_caused, run_refusal, run_input, translate_caused, check_caused, is_word}
+use Rattle.uqbt_top.proofs.Answered.{five_words, six_words, run_caused, run_refusal, run_input, translate_caused, check_caused, check_refusal, is_word}
 use Rattle.uqbt_top.proofs.top.act.Goals as goal
 
 pub returns-else-ne-clause-caused : goal.returns-else-ne-clause-caused
@@ -13,6 +13,13 @@ returns-else-ne-clause-caused g c =
     (four_texts c.args.words.now word c.sled-item.result c.ssl-item.result c.conv-item.result _ _ _ _ (omega (arith, c.in-len4.len_at_least, c.in-len4.len_below)) c.command-item.is c.sled-item.is c.ssl-item.is c.conv-item.is)
     (is_word word c.bytes.result.now c.as_slice.result.now (codes "check") c.ne.result c.bytes.ensures c.as_slice.ensures c.ne.ensures c.if-ne.false)
     c.answered.ensures (c.check.ensures.caused _ _)
+
+pub returns-else-ne-clause-refusal : goal.returns-else-ne-clause-refusal
+returns-else-ne-clause-refusal g c =
+    let word = c.command-item.result in
+    check_refusal c.args.words.now word c.sled-item.result c.ssl-item.result c.conv-item.result c.answered.result (c.args.out.now ≡ c.args.out.now)
+    (four_texts c.args.words.now word c.sled-item.result c.ssl-item.result c.conv-item.result _ _ _ _ (omega (arith, c.in-len4.len_at_least, c.in-len4.len_below)) c.command-item.is c.sled-item.is c.ssl-item.is c.conv-item.is)
+    (is_word word c.bytes.result.now c.as_slice.result.now (codes "check") c.ne.result c.bytes.ensures c.as_slice.ensures c.ne.ensures c.if-ne.false) refl
 
 pub returns-else-ne-2-clause-caused : goal.returns-else-ne-2-clause-caused
 returns-else-ne-2-clause-caused g c =

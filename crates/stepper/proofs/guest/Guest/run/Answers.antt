@@ -1,7 +1,7 @@
-use Rattle.std.proofs.Common.{arith, subst, sym}
+use Rattle.std.proofs.Common.{arith, subst, sym, ap}
 use Rattle.std.proofs.lemmas.Result.{err_from_is_err_and}
 use Rattle.stepper.specs.Ran.{TookPrefix, written}
-use Rattle.stepper.proofs.Going.{gone-none, gone-on, gone-all, came-end, took-end, took-front}
+use Rattle.stepper.proofs.Going.{gone-none, gone-on, gone-all, came-end, took-end, took-front, made-some}
 use Rattle.stepper.proofs.guest.Guest.run.Goals as goal
 
 pub loop-init : goal.loop-init
@@ -37,3 +37,10 @@ returns-in_err-end-clause-front g c =
     rw p.1
     (subst (λ o. TookPrefix a (g.K.Sink.output o) (written c.args.self.now c.args.n)) (sym c.in_err-end.ensures.err)
     (took-front c.args.self.now c.loop.self a (g.K.Sink.output c.loop.out) c.loop.counter c.loop.invariant c.args.n c.loop-test.true))
+
+pub returns-in_err-end-clause-some : goal.returns-in_err-end-clause-some
+returns-in_err-end-clause-some g c =
+    let p = err_from_is_err_and c.from_residual.result c.from_residual.ensures.1 in
+    rw p.1
+    (made-some c.args.self.now c.loop.self c.run_one.new.self (g.K.Sink.output c.args.out.now) (g.K.Sink.output c.loop.out) (g.K.Sink.output c.run_one.new.out) c.loop.counter c.args.n c.loop-test.true c.loop.invariant
+    c.in_err-end.ensures.kept (ap g.K.Sink.output c.in_err-end.ensures.err))
