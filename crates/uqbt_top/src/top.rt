@@ -1,5 +1,7 @@
 // The call that does all that the program does.
-ghost use Rattle.std.specs.Prelude.{◌≡◌, ◌<◌, ◌-◌, ◌^◌, length, All};
+ghost use Rattle.std.specs.Prelude.{◌≡◌, ◌<◌, ◌-◌, ◌^◌, length, All, IfOk, IfErr};
+ghost use Rattle.c_lang.specs.Spellable.{HasSpelling};
+ghost use Rattle.c_text.specs.Spells.{Spells};
 ghost use Rattle.edge_io.specs.Input.{Input};
 ghost use Rattle.edge_io.specs.Output.{Output, TookFront};
 ghost use Rattle.uqbt_top.specs.Command.{Check, Run, Translate, command_of, run_steps};
@@ -15,8 +17,10 @@ use crate::reading::{FileWord, FileWords, Text, read_files, read_four};
 use crate::running::run_texts;
 use crate::steps::steps_of;
 use crate::{FileName, Outcome};
+use c_lang::Program;
 use c_text::write_c;
 use edge_io::{Sink, Source, Store, Word};
+use gathering::Gather;
 use rtl_core::RunEnd;
 use std::alloc::Global;
 
@@ -243,7 +247,7 @@ fn translate<F: Store, K: Sink>(
     write_program(alloc, texts.as_slice(), out)
 }
 
-// Writes the C text of the executable on the described machine.
+// Writes the C text of the executable on the described machine. All of it is gathered before any is put out.
 fn write_program<K: Sink>(alloc: Global, texts: &[Text], out: &mut K) -> Result<(), Outcome>
     requires four { length texts.now ≡ 4 }
     requires short { All (λ t. length t < 2 ^ 32 - 1) texts.now }
@@ -254,8 +258,22 @@ fn write_program<K: Sink>(alloc: Global, texts: &[Text], out: &mut K) -> Result<
         unreachable!()
     };
     let program = translated(alloc, sled.bytes(), ssl.bytes(), conv.bytes(), exe.bytes())?;
-    match write_c(&program, out) {
+    let text = text_of(alloc, &program)?;
+    match text.finish(out) {
         Ok(()) => Ok(()),
         Err(_) => Err(Outcome::WriteFault),
+    }
+}
+
+// A C text of the program, gathered in memory.
+fn text_of(alloc: Global, program: &Program) -> Result<Gather, Outcome>
+    requires { HasSpelling program.now }
+    ensures text { IfOk result (λ text. Spells text.bytes program.now) }
+    ensures no_memory { IfErr result (λ o. o ≡ Outcome.NoMemory) }
+{
+    let mut text = Gather::new(alloc);
+    match write_c(program, &mut text) {
+        Ok(()) => Ok(text),
+        Err(_) => Err(Outcome::NoMemory),
     }
 }
