@@ -1,5 +1,5 @@
 -- The machine of the tests fits its first cells, and the acts of the tests are sound on it.
-use Rattle.std.proofs.Common.{◌≡◌, ◌≢◌, ℕ, zero, suc, ◌+◌, ◌-◌, ◌*◌, ◌^◌, ◌<◌, ◌≤◌, true, Some, List, [], ◌∷◌, length, refl, sym, ap, ◌∙◌, subst, arith, inl}
+use Rattle.std.proofs.Common.{◌≡◌, ℕ, zero, suc, ◌+◌, ◌-◌, ◌*◌, ◌^◌, ◌<◌, ◌≤◌, true, Some, List, [], ◌∷◌, length, refl, sym, ap, ◌∙◌, subst, arith, inl}
 use Rattle.std.specs.Prelude.{◌++◌, slice_index, is_some, IsTrue, All}
 use Rattle.std.proofs.lemmas.List.Elements.{All-push}
 use Rattle.rtl_core.specs.declared.expr.Bin.TheVariants.{DivU}
@@ -12,7 +12,7 @@ use Rattle.rtl_core.specs.declared.transfer.Act.TheVariants as A
 use Rattle.rtl_core.specs.declared.transfer.Transfer.{Transfer}
 use Rattle.rtl_core.specs.Access.{is_size}
 use Rattle.rtl_core.specs.SoundMachine.{AreWindowCells, AreSoundWindows, HaveSoundWindows}
-use Rattle.rtl_core.specs.SoundTerms.{IsWidth, AreWidths, IsSoundTerm, HasWidth, IsSoundAct, IsSoundTransfer, Fit}
+use Rattle.rtl_core.specs.SoundTerms.{IsWidth, AreWidths, IsSoundTerm, HasWidth, IsSoundAct, IsSoundTransfer}
 use Rattle.rtl_core.specs.Terms.{Term, Const, Cell, Load, Unary, Binary, Slice, Zext, term_of, width_of}
 use Rattle.rtl_core.proofs.AccessLaws.{size_bounds}
 use Rattle.rtl_core.proofs.TermLaws.{term-Const, term-Cell, term-Load, term-Un, term-Bin, term-Slice, term-Zext}

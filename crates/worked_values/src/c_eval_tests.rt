@@ -1,6 +1,4 @@
 //! A program with a statement of each kind, gone through step by step; and steps that cannot be made.
-ghost use Rattle.std.specs.Prelude.{◌≡◌, [], IfOk};
-
 use crate::test_memory::Ram;
 use c_eval::{PlainFrame, PlainPlace, PlainState, Setting, Taken, Word, plain_step};
 use c_lang::{CBlock, CExpr, COp, End, Function, Header, Order, Point, Program, Slot, Stmt, Var};

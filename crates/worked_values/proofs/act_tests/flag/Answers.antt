@@ -1,8 +1,4 @@
-use Rattle.std.proofs.Common.{◌≡◌, ◌<◌, ◌≤◌, ◌∙◌, ◌-◌, ◌*◌, true, [], ◌∷◌, sym, subst, arith}
-use Rattle.rtl_core.specs.declared.expr.Expr.{Expr}
-use Rattle.rtl_core.specs.declared.expr.Expr.TheVariants as E
-use Rattle.rtl_core.specs.declared.transfer.Act.TheVariants as A
-use Rattle.rtl_core.specs.SoundTerms.{HasWidth, IsSoundAct}
+use Rattle.std.proofs.Common.{arith}
 use Rattle.worked_values.proofs.SmallMachine.{number_has}
 use Rattle.worked_values.proofs.act_tests.flag.Goals as goal
 

@@ -1,8 +1,5 @@
-use Rattle.std.proofs.Common.{◌≡◌, ◌<◌, ◌≤◌, ◌∙◌, ◌-◌, ◌*◌, true, [], ◌∷◌, sym, subst, arith}
-use Rattle.rtl_core.specs.declared.expr.Expr.{Expr}
-use Rattle.rtl_core.specs.declared.expr.Expr.TheVariants as E
-use Rattle.rtl_core.specs.declared.transfer.Act.TheVariants as A
-use Rattle.rtl_core.specs.SoundTerms.{HasWidth, IsSoundAct}
+use Rattle.std.proofs.Common.{sym, subst}
+use Rattle.rtl_core.specs.SoundTerms.{HasWidth}
 use Rattle.worked_values.proofs.SmallMachine.{set_middle}
 use Rattle.worked_values.proofs.act_tests.set_middle.Goals as goal
 

@@ -1,8 +1,7 @@
-use Rattle.std.proofs.Common.{◌≡◌, ◌<◌, ◌≤◌, ◌∙◌, ◌-◌, ◌*◌, true, [], ◌∷◌, sym, subst, arith}
-use Rattle.rtl_core.specs.declared.expr.Expr.{Expr}
+use Rattle.std.proofs.Common.{◌≡◌, ◌∙◌, ◌-◌, ◌*◌, true, sym, subst}
 use Rattle.rtl_core.specs.declared.expr.Expr.TheVariants as E
 use Rattle.rtl_core.specs.declared.transfer.Act.TheVariants as A
-use Rattle.rtl_core.specs.SoundTerms.{HasWidth, IsSoundAct}
+use Rattle.rtl_core.specs.SoundTerms.{IsSoundAct}
 use Rattle.rtl_core.specs.Access.{is_size}
 use Rattle.worked_values.proofs.SmallMachine.{store_low}
 use Rattle.worked_values.proofs.act_tests.store_low.Goals as goal

@@ -1,8 +1,5 @@
-use Rattle.std.proofs.Common.{◌≡◌, ◌<◌, ◌≤◌, ◌∙◌, ◌-◌, ◌*◌, true, [], ◌∷◌, sym, subst, arith}
-use Rattle.rtl_core.specs.declared.expr.Expr.{Expr}
-use Rattle.rtl_core.specs.declared.expr.Expr.TheVariants as E
-use Rattle.rtl_core.specs.declared.transfer.Act.TheVariants as A
-use Rattle.rtl_core.specs.SoundTerms.{HasWidth, IsSoundAct}
+use Rattle.std.proofs.Common.{sym, subst}
+use Rattle.rtl_core.specs.SoundTerms.{HasWidth}
 use Rattle.rtl_core.specs.declared.expr.Un.TheVariants.{Not}
 use Rattle.worked_values.proofs.SmallMachine.{cell_has, turned_has}
 use Rattle.worked_values.proofs.act_tests.turned.Goals as goal
