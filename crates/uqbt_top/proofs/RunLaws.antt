@@ -7,7 +7,7 @@ use Rattle.lockstep.specs.Runs.{Goes, Ends, View, after, machine_view, HasOutput
 use Rattle.lockstep.specs.Meets.{next_out}
 use Rattle.edge_io.specs.Input.{Input}
 use Rattle.edge_io.specs.Output.{Output}
-use Rattle.rtl_core.specs.Contents.{Contents, Held}
+use Rattle.rtl_core.specs.Contents.{Contents}
 use Rattle.rtl_core.specs.FirstMemory.{areas, parts_memory, with_block}
 use Rattle.rtl_core.specs.declared.conv.Conv.{Conv}
 use Rattle.rtl_core.specs.declared.encodings.Encodings.{Encodings}
