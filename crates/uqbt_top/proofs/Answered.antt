@@ -1,7 +1,8 @@
 -- How the answers of the commands follow from what was done with their files.
 use Rattle.std.proofs.Common.{◌≡◌, inr, ℕ, Bool, true, false, not, List, [], ◌∷◌, length, get_or, Some, refl, sym, ap, ◌∙◌, arith}
-use Rattle.std.specs.Prelude.{codes}
+use Rattle.std.specs.Prelude.{All, codes}
 use Rattle.std.specs.Str.{bytes_eq}
+use Rattle.c_emit.specs.Same.{AreBytes}
 use Rattle.uqbt_top.specs.declared.outcome.Outcome.{Outcome}
 use Rattle.uqbt_top.specs.declared.outcome.Outcome.TheVariants.{Done, Ran, Spent, Usage, Description, Executable, InputTooLong, FileTooLong, NoMemory, WriteFault, ReadFault}
 use Rattle.uqbt_top.specs.Wanted.{AreFiles}
@@ -13,19 +14,19 @@ use Rattle.uqbt_top.proofs.BuiltLaws.{four_texts}
 -- ---- what was done
 
 -- `check` found this
-pub checked : (sled ssl conv : List ℕ) (a : Around) (bytes : List (List ℕ)) (o : Outcome) → AreFiles a.told (three_files sled ssl conv) bytes → a.names' ≡ a.names → a.input' ≡ a.input
+pub checked : (sled ssl conv : List ℕ) (a : Around) (bytes : List (List ℕ)) (o : Outcome) → All AreBytes bytes → AreFiles a.told (three_files sled ssl conv) bytes → a.names' ≡ a.names → a.input' ≡ a.input
     → CheckRead bytes a.out a.out' o → CommandCaused (Check sled ssl conv) a o
-checked sled ssl conv a bytes Done read kept i did = record { kept = kept; bytes = bytes; were_read = read; did = (did, i) }
-checked sled ssl conv a bytes (Description file fault) read kept i did = record { kept = kept; bytes = bytes; were_read = read; did = (did, i) }
-checked sled ssl conv a bytes NoMemory read kept i did = inr (record { kept = kept; bytes = bytes; were_read = read; did = (did, i) })
-checked sled ssl conv a bytes (Ran stop) read kept i did = absurd did.did
-checked sled ssl conv a bytes Spent read kept i did = absurd did.did
-checked sled ssl conv a bytes Usage read kept i did = absurd did.did
-checked sled ssl conv a bytes (Executable fault) read kept i did = absurd did.did
-checked sled ssl conv a bytes InputTooLong read kept i did = absurd did.did
-checked sled ssl conv a bytes (FileTooLong file) read kept i did = absurd did.did
-checked sled ssl conv a bytes WriteFault read kept i did = absurd did.did
-checked sled ssl conv a bytes ReadFault read kept i did = absurd did.did
+checked sled ssl conv a bytes Done small read kept i did = record { kept = kept; bytes = bytes; are_bytes = small; were_read = read; did = (did, i) }
+checked sled ssl conv a bytes (Description file fault) small read kept i did = record { kept = kept; bytes = bytes; are_bytes = small; were_read = read; did = (did, i) }
+checked sled ssl conv a bytes NoMemory small read kept i did = inr (record { kept = kept; bytes = bytes; are_bytes = small; were_read = read; did = (did, i) })
+checked sled ssl conv a bytes (Ran stop) small read kept i did = absurd did.did
+checked sled ssl conv a bytes Spent small read kept i did = absurd did.did
+checked sled ssl conv a bytes Usage small read kept i did = absurd did.did
+checked sled ssl conv a bytes (Executable fault) small read kept i did = absurd did.did
+checked sled ssl conv a bytes InputTooLong small read kept i did = absurd did.did
+checked sled ssl conv a bytes (FileTooLong file) small read kept i did = absurd did.did
+checked sled ssl conv a bytes WriteFault small read kept i did = absurd did.did
+checked sled ssl conv a bytes ReadFault small read kept i did = absurd did.did
 
 -- ---- words
 

@@ -1,8 +1,9 @@
 -- When each answer comes, and what was written.
-use Rattle.std.specs.Prelude.{◌≡◌, ◌⊎◌, ℕ, List, [], ◌∷◌, ◌++◌, Option, Some, MatchOption, Result, Ok, Err}
+use Rattle.std.specs.Prelude.{◌≡◌, ◌⊎◌, ℕ, List, [], ◌∷◌, ◌++◌, All, Option, Some, MatchOption, Result, Ok, Err}
 use Rattle.edge_io.specs.Files.{Files, Names, IsLonger}
 use Rattle.edge_io.specs.Input.{Input}
 use Rattle.edge_io.specs.Output.{Output}
+use Rattle.c_emit.specs.Same.{AreBytes}
 use Rattle.c_lang.specs.declared.tree.Program.{Program}
 use Rattle.c_text.specs.Output.{TookText, TookPartOfText}
 use Rattle.descriptions.specs.declared.described.Described.{Described}
@@ -119,6 +120,7 @@ pub record Around : Type 0 where
 pub record AllRead (command : Command) (a : Around) (outcome : Outcome) : Type 0 where
   pub kept : a.names' ≡ a.names
   pub bytes : List (List ℕ)
+  pub are_bytes : All AreBytes bytes
   pub were_read : AreFiles a.told (files_of command) bytes
   pub did : Did command bytes a.input a.input' a.out a.out' outcome
 

@@ -1,5 +1,6 @@
 // The files of a command.
-ghost use Rattle.std.specs.Prelude.{◌≡◌, map, IfOk, IfErr, OnOk};
+ghost use Rattle.std.specs.Prelude.{◌≡◌, map, All, IfOk, IfErr, OnOk};
+ghost use Rattle.c_emit.specs.Same.{AreBytes};
 ghost use Rattle.edge_io.specs.Files.{IsFile};
 ghost use Rattle.uqbt_top.specs.Message.{limit_of};
 ghost use Rattle.uqbt_top.specs.Command.{four_files};
@@ -59,14 +60,23 @@ pub struct FileWords<'a> {
     pub exe: &'a Word,
 }
 
+/// The items of a slice of bytes are below 256.
+pub fn are_bytes(bytes: &[u8])
+    ensures { AreBytes bytes.now }
+{}
+
 fn read_file<F: Store>(alloc: Global, files: &mut F, word: &FileWord<'_>) -> Result<Text, Outcome>
+    ensures small { IfOk result (λ text. AreBytes text) }
     ensures read { IfOk result (λ text. IsFile (F.files files.old) word.now.name.now (limit_of word.now.file) text) }
     ensures kept { OnOk result (F.names files.new ≡ F.names files.old) }
     ensures stopped { IfErr result (FetchStopped (F.files files.old) (wanted word.now) (F.names files.old) (F.names files.new)) }
     ensures files { F.files files.new ≡ F.files files.old }
 {
     match files.fetch(alloc, word.name, word.file.limit()) {
-        Ok(bytes) => Ok(Text::new(bytes)),
+        Ok(bytes) => {
+            are_bytes(bytes.as_slice());
+            Ok(Text::new(bytes))
+        }
         Err(Fetch::Failed) => Err(Outcome::ReadFault),
         Err(Fetch::TooLong) => Err(Outcome::FileTooLong { file: word.file }),
         Err(Fetch::NoMemory) => Err(Outcome::NoMemory),
@@ -79,6 +89,7 @@ pub fn read_files<F: Store>(
     files: &mut F,
     words: &[FileWord<'_>],
 ) -> Result<Vec<Text>, Outcome>
+    ensures small { IfOk result (λ texts. All AreBytes texts.items) }
     ensures read { IfOk result (λ texts. AreFiles (F.files files.old) (map wanted words.now) texts.items) }
     ensures kept { OnOk result (F.names files.new ≡ F.names files.old) }
     ensures stopped { IfErr result (ReadStopped (F.files files.old) (map wanted words.now) (F.names files.old) (F.names files.new)) }
@@ -98,6 +109,7 @@ pub fn read_four<F: Store>(
     files: &mut F,
     names: &FileWords<'_>,
 ) -> Result<Vec<Text>, Outcome>
+    ensures small { IfOk result (λ texts. All AreBytes texts.items) }
     ensures read { IfOk result (λ texts. AreFiles (F.files files.old) (four_files names.now.sled.now names.now.ssl.now names.now.conv.now names.now.exe.now) texts.items) }
     ensures kept { OnOk result (F.names files.new ≡ F.names files.old) }
     ensures stopped { IfErr result (ReadStopped (F.files files.old) (four_files names.now.sled.now names.now.ssl.now names.now.conv.now names.now.exe.now) (F.names files.old) (F.names files.new)) }

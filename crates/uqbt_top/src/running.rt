@@ -4,7 +4,6 @@ ghost use Rattle.rtl_core.specs.SoundConv.{AreSoundTogether};
 ghost use Rattle.points.specs.Machine.{machine_run};
 ghost use Rattle.space.specs.Ranges.{memory_of};
 ghost use Rattle.load_image.specs.Mapped.{AreBuildable};
-ghost use Rattle.c_emit.specs.Same.{AreBytes};
 ghost use Rattle.stepper.specs.Shown.{IsSoundSetting, setting_of};
 ghost use Rattle.uqbt_top.specs.Built.{IsReady};
 ghost use Rattle.uqbt_top.specs.Causes.{RunRead};
@@ -12,7 +11,7 @@ ghost use Rattle.uqbt_top.specs.Running.{HasMemory, IsInput, LoadedRan, MachineR
 
 use crate::Outcome;
 use crate::built::{MOST_POINTS, TOO_LARGE, described, loaded};
-use crate::reading::Text;
+use crate::reading::{Text, are_bytes};
 use c_emit::line_ends;
 use decode::Bundle;
 use descriptions::Described;
@@ -104,11 +103,6 @@ fn whole_input<S: Source>(alloc: Global, input: &mut S) -> Result<Vec<u8>, Outco
         Err(ReadEnd::NoMemory) => Err(Outcome::NoMemory),
     }
 }
-
-/// The items of a slice of bytes are below 256.
-fn are_bytes(bytes: &[u8])
-    ensures { AreBytes bytes.now }
-{}
 
 /// Runs a machine from its first instruction on, over a memory of ranges.
 fn run_guest<K: Sink>(

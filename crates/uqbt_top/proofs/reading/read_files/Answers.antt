@@ -1,5 +1,7 @@
 use Rattle.std.proofs.Common.{◌∙◌, arith, ◌<◌, length, map, subst}
+use Rattle.std.proofs.lemmas.List.Elements.{All-push}
 use Rattle.std.proofs.lemmas.Result.{err_from_is_err_and}
+use Rattle.c_emit.specs.Same.{AreBytes}
 use Rattle.edge_io.specs.Files.{IsFile}
 use Rattle.uqbt_top.specs.Message.{limit_of}
 use Rattle.uqbt_top.specs.Wanted.{wanted}
@@ -31,6 +33,7 @@ loop-word-preserved g c =
     let w = c.word-item.result in
     let file : IsFile told w.name.now (limit_of w.file) c.in_ok-text.text = subst (λ t. IsFile t w.name.now (limit_of w.file) c.in_ok-text.text) c.loop-word.invariant.told c.in_ok-text.ensures.read in
     record {
+      small = rw c.in_ok-push.ensures.items (All-push AreBytes c.loop-word.texts.items c.in_ok-text.text c.loop-word.invariant.small c.in_ok-text.ensures.small);
       read = rw c.in_ok-push.ensures.items (read_on told c.args.words.now c.loop-word.word-index w c.loop-word.texts.items c.in_ok-text.text below c.word-item.is c.loop-word.invariant.read file);
       names = c.in_ok-text.ensures.kept ∙ c.loop-word.invariant.names;
       told = c.read_file.ensures.files ∙ c.loop-word.invariant.told;

@@ -6,5 +6,5 @@ use Rattle.uqbt_top.proofs.top.check.Goals as goal
 pub returns-clause-caused : goal.returns-clause-caused
 returns-clause-caused g c = λ input out.
     let around : Around = record { told = g.F.Store.files c.args.files.now; names = g.F.Store.names c.args.files.now; names' = g.F.Store.names c.read_files.new.files; input = input; input' = input; out = out; out' = out } in
-    checked c.args.sled.now c.args.ssl.now c.args.conv.now around c.in_ok-texts.texts.items (outcome_of c.check_texts.result) c.in_ok-texts.ensures.read c.in_ok-texts.ensures.kept refl
+    checked c.args.sled.now c.args.ssl.now c.args.conv.now around c.in_ok-texts.texts.items (outcome_of c.check_texts.result) c.in_ok-texts.ensures.small c.in_ok-texts.ensures.read c.in_ok-texts.ensures.kept refl
     (subst (λ ts. CheckRead ts out out (outcome_of c.check_texts.result)) c.as_slice.ensures.value (c.check_texts.ensures.caused out))
