@@ -104,6 +104,8 @@ behind_reads (body.Call name) h = refl
 behind_reads (body.Return name) h = refl
 behind_reads (body.Entry n) h = refl
 behind_reads (body.Whole n) h = refl
+behind_reads (body.Pad name) h = refl
+behind_reads (body.Args n) h = refl
 
 -- each line's word is its own
 word_is : (b : ConvBody) → line_word (word_bytes (first_word b)) ≡ first_word b
@@ -122,6 +124,8 @@ word_is (body.Call name) = refl
 word_is (body.Return name) = refl
 word_is (body.Entry n) = refl
 word_is (body.Whole n) = refl
+word_is (body.Pad name) = refl
+word_is (body.Args n) = refl
 
 -- a line value is read from its tokens
 pub body_reads : (b : ConvBody) → is_body b ≡ true → read_body (body_toks b) ≡ reads b []

@@ -233,6 +233,8 @@ behind_sound line.Call ts b r h = name_sound line.Call (λ x. body.Call x) (λ x
 behind_sound line.Return ts b r h = name_sound line.Return (λ x. body.Return x) (λ x. refl) (λ x. record { word = refl; proper = refl }) ts b r h
 behind_sound line.Entry ts b r h = number_sound line.Entry (λ n. body.Entry n) (λ n. refl) (λ n. record { word = refl; proper = refl }) ts b r h
 behind_sound line.Whole ts b r h = number_sound line.Whole (λ n. body.Whole n) (λ n. refl) (λ n. record { word = refl; proper = refl }) ts b r h
+behind_sound line.Pad ts b r h = name_sound line.Pad (λ x. body.Pad x) (λ x. refl) (λ x. record { word = refl; proper = refl }) ts b r h
+behind_sound line.Args ts b r h = number_sound line.Args (λ n. body.Args n) (λ n. refl) (λ n. record { word = refl; proper = refl }) ts b r h
 behind_sound line.Other ts b r h = never b r h
 
 -- a name is the word that it is found to be, or no word

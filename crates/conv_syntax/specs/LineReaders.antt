@@ -89,6 +89,8 @@ read_behind line.Call = any_name >>= (λ name. give (body.Call name))
 read_behind line.Return = any_name >>= (λ name. give (body.Return name))
 read_behind line.Entry = number >>= (λ n. give (body.Entry n))
 read_behind line.Whole = number >>= (λ n. give (body.Whole n))
+read_behind line.Pad = any_name >>= (λ name. give (body.Pad name))
+read_behind line.Args = number >>= (λ n. give (body.Args n))
 read_behind line.Other = fail
 
 unfoldable pub read_body : Reader ConvBody

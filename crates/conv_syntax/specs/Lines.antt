@@ -61,6 +61,8 @@ first_word (body.Call name) = line.Call
 first_word (body.Return name) = line.Return
 first_word (body.Entry n) = line.Entry
 first_word (body.Whole n) = line.Whole
+first_word (body.Pad name) = line.Pad
+first_word (body.Args n) = line.Args
 
 -- what stands behind it
 abbrev pub rest_toks : ConvBody → List Token
@@ -78,6 +80,8 @@ rest_toks (body.Call name) = Name name ∷ []
 rest_toks (body.Return name) = Name name ∷ []
 rest_toks (body.Entry n) = Number n ∷ []
 rest_toks (body.Whole n) = Number n ∷ []
+rest_toks (body.Pad name) = Name name ∷ []
+rest_toks (body.Args n) = Number n ∷ []
 
 -- what a line says
 abbrev pub body_toks : ConvBody → List Token

@@ -2,7 +2,7 @@
 use Rattle.std.specs.Prelude.{ℕ, List, [], ◌∷◌, codes}
 use Rattle.line_reading.specs.Spelling.{word_among}
 use Rattle.conv_syntax.specs.declared.words.LineWord.{LineWord}
-use Rattle.conv_syntax.specs.declared.words.LineWord.TheVariants.{Elf, Stack, Heap, Service, Exit, Read, Write, Brk, Errors, Link, Call, Return, Entry, Whole, Other}
+use Rattle.conv_syntax.specs.declared.words.LineWord.TheVariants.{Elf, Stack, Heap, Service, Exit, Read, Write, Brk, Errors, Link, Call, Return, Entry, Whole, Pad, Args, Other}
 
 -- the letters of a word
 abbrev pub word_bytes : LineWord → List ℕ
@@ -20,10 +20,12 @@ word_bytes Call = codes "call"
 word_bytes Return = codes "return"
 word_bytes Entry = codes "entry"
 word_bytes Whole = codes "whole"
+word_bytes Pad = codes "pad"
+word_bytes Args = codes "args"
 word_bytes Other = []
 
 abbrev pub line_words : List LineWord
-line_words = Elf ∷ Stack ∷ Heap ∷ Service ∷ Exit ∷ Read ∷ Write ∷ Brk ∷ Errors ∷ Link ∷ Call ∷ Return ∷ Entry ∷ Whole ∷ []
+line_words = Elf ∷ Stack ∷ Heap ∷ Service ∷ Exit ∷ Read ∷ Write ∷ Brk ∷ Errors ∷ Link ∷ Call ∷ Return ∷ Entry ∷ Whole ∷ Pad ∷ Args ∷ []
 
 -- which word a name is, or Other
 unfoldable pub line_word : List ℕ → LineWord

@@ -46,6 +46,10 @@ pub enum ConvBody {
     Entry(u64),
     /// `whole N`.
     Whole(u64),
+    /// `pad NAME`.
+    Pad(Items<u8>),
+    /// `args OFFSET`.
+    Args(u64),
 }
 
 /// `NAME` or `NAME [ NUMBER ]`.

@@ -134,6 +134,8 @@ fn read_behind(alloc: Global, word: LineWord, cursor: &mut Cursor<'_>) -> Result
         LineWord::Return => Ok(ConvBody::Return(cursor.any_name(alloc)?)),
         LineWord::Entry => Ok(ConvBody::Entry(cursor.number()?)),
         LineWord::Whole => Ok(ConvBody::Whole(cursor.number()?)),
+        LineWord::Pad => Ok(ConvBody::Pad(cursor.any_name(alloc)?)),
+        LineWord::Args => Ok(ConvBody::Args(cursor.number()?)),
         LineWord::Other => Err(Stop::Malformed),
     }
 }

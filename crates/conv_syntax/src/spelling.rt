@@ -125,6 +125,8 @@ fn first_word(body: &ConvBody) -> LineWord
         ConvBody::Return(_) => LineWord::Return,
         ConvBody::Entry(_) => LineWord::Entry,
         ConvBody::Whole(_) => LineWord::Whole,
+        ConvBody::Pad(_) => LineWord::Pad,
+        ConvBody::Args(_) => LineWord::Args,
     }
 }
 
@@ -139,7 +141,8 @@ fn put_rest(alloc: Global, out: &mut Items<Token>, body: &ConvBody) -> Result<()
         | ConvBody::Write(number)
         | ConvBody::Brk(number)
         | ConvBody::Entry(number)
-        | ConvBody::Whole(number) => put_number(out, *number),
+        | ConvBody::Whole(number)
+        | ConvBody::Args(number) => put_number(out, *number),
         ConvBody::Stack(line) => put_stack(alloc, out, line),
         ConvBody::Heap { base, size } => put_heap(out, *base, *size),
         ConvBody::Service(line) => put_service(alloc, out, line),
@@ -149,7 +152,9 @@ fn put_rest(alloc: Global, out: &mut Items<Token>, body: &ConvBody) -> Result<()
             unknown,
         } => put_errors(alloc, out, *fault, *descriptor, *unknown),
         ConvBody::Link(cell) => put_cell(alloc, out, cell),
-        ConvBody::Call(name) | ConvBody::Return(name) => put_name(alloc, out, name.as_slice()),
+        ConvBody::Call(name) | ConvBody::Return(name) | ConvBody::Pad(name) => {
+            put_name(alloc, out, name.as_slice())
+        },
     }
 }
 

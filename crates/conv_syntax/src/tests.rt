@@ -76,6 +76,8 @@ fn push_body(alloc: Global, out: &mut String, body: &ConvBody) -> Result<(), All
         ConvBody::Return(name) => push_named(out, " return ", name),
         ConvBody::Entry(number) => push_number(alloc, out, "entry", *number),
         ConvBody::Whole(number) => push_number(alloc, out, "whole", *number),
+        ConvBody::Pad(name) => push_named(out, " pad ", name),
+        ConvBody::Args(number) => push_number(alloc, out, "args", *number),
     }
 }
 
@@ -100,7 +102,7 @@ fn shown(alloc: Global, text: &[u8]) -> Result<String, Fail> {
 
 #[test]
 fn each_line_is_read(rt: HostRuntime) -> Result<(), Fail> {
-    let table: [(&[u8], &str); 34] = [
+    let table: [(&[u8], &str); 39] = [
         (b"", ""),
         (b"elf 2\n\nelf 0x10", " 1 elf 2 3 elf 16"),
         (
@@ -159,7 +161,15 @@ fn each_line_is_read(rt: HostRuntime) -> Result<(), Fail> {
         (b"link r[x]", "bad 1"),
         (b"call 7", "bad 1"),
         (b"entry main", "bad 1"),
-        (b"pad A", "bad 1"),
+        (
+            b"pad UNIMP\npad pad\npad UNIMP",
+            " 1 pad UNIMP 2 pad pad 3 pad UNIMP",
+        ),
+        (b"args 64\nargs 0x102", " 1 args 64 2 args 258"),
+        (b"pad 4", "bad 1"),
+        (b"pad A B", "bad 1"),
+        (b"args A", "bad 1"),
+        (b"args 64 0", "bad 1"),
         (b"elf 2\nheap\nbrk", "bad 2"),
         (
             b"elf 2\nheap\nbrk \x80",
@@ -190,7 +200,7 @@ fn tokens_shown(alloc: Global, tokens: &[Token]) -> Result<String, AllocError> {
 #[test]
 fn each_line_is_spelled(rt: HostRuntime) -> Result<(), Fail> {
     let text =
-        b"stack r[14] 0 8 16\nservice a args b c[1] d result e error negative\nerrors fault 1 descriptor 2 unknown 3\ncall A";
+        b"stack r[14] 0 8 16\nservice a args b c[1] d result e error negative\nerrors fault 1 descriptor 2 unknown 3\ncall A\npad B\nargs 64";
     let mut out = String::new(rt.alloc());
     for value in read_conv(rt.alloc(), text)?.as_slice() {
         let tokens = spell(rt.alloc(), &value.body)?;
@@ -198,7 +208,7 @@ fn each_line_is_spelled(rt: HostRuntime) -> Result<(), Fail> {
     }
     assert_eq!(rt;
         out.as_str(),
-        " stack r $17 14 $18 0 8 16 service a args b c $17 1 $18 d result e error negative errors fault 1 descriptor 2 unknown 3 call A"
+        " stack r $17 14 $18 0 8 16 service a args b c $17 1 $18 d result e error negative errors fault 1 descriptor 2 unknown 3 call A pad B args 64"
     );
     Ok(())
 }

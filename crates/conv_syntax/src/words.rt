@@ -19,6 +19,8 @@ pub enum LineWord {
     Return,
     Entry,
     Whole,
+    Pad,
+    Args,
     Other,
 }
 
@@ -55,6 +57,10 @@ pub fn line_word(name: &[u8]) -> LineWord
         LineWord::Entry
     } else if name == b"whole".as_slice() {
         LineWord::Whole
+    } else if name == b"pad".as_slice() {
+        LineWord::Pad
+    } else if name == b"args".as_slice() {
+        LineWord::Args
     } else {
         LineWord::Other
     }
@@ -79,6 +85,8 @@ pub fn word_bytes(word: LineWord) -> &'static [u8]
         LineWord::Return => b"return",
         LineWord::Entry => b"entry",
         LineWord::Whole => b"whole",
+        LineWord::Pad => b"pad",
+        LineWord::Args => b"args",
         LineWord::Other => b"",
     }
 }

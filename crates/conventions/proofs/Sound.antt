@@ -3,7 +3,7 @@ use Rattle.std.proofs.Common.{◌≡◌, ℕ, ◌^◌, ◌<◌, Bool, true, fals
 use Rattle.std.specs.Prelude.{is_some, not}
 use Rattle.std.specs.List.{filter_map, cons_option}
 use Rattle.std.specs.Option.{option_or}
-use Rattle.std.proofs.lemmas.Bool.{or_parts}
+use Rattle.std.proofs.lemmas.Bool.{or_parts, not-false}
 use Rattle.std.proofs.lemmas.List.{append-nil}
 use Rattle.std.proofs.lemmas.List.Elements.{All-nil, All-cons, All-head, All-tail, All-push}
 use Rattle.rtl_core.specs.declared.conv.Conv.{Conv}
@@ -16,7 +16,7 @@ use Rattle.rtl_core.specs.SoundConv.{IsArea, IsWord, AreServiceNumbers, IsSoundC
 use Rattle.rtl_core.specs.SoundMachine.{AreSound, NamesItsCells}
 use Rattle.conv_syntax.specs.declared.line.ConvLine.{ConvLine}
 use Rattle.conventions.specs.declared.fact.Fact.{Fact}
-use Rattle.conventions.specs.declared.fact.Fact.TheVariants.{Elf, Stack, Heap, Service, Exit, Read, Write, Brk, Errors, Link, Call, Return, Entry, Whole}
+use Rattle.conventions.specs.declared.fact.Fact.TheVariants.{Elf, Stack, Heap, Service, Exit, Read, Write, Brk, Errors, Link, Call, Return, Entry, Whole, Pad, Args}
 use Rattle.conventions.specs.declared.fact.Area.{Area}
 use Rattle.conventions.specs.declared.fact.StackArea.{StackArea}
 use Rattle.conventions.specs.declared.fact.ServiceCells.{ServiceCells}
@@ -24,23 +24,24 @@ use Rattle.conventions.specs.declared.fact.ErrorNumbers.{ErrorNumbers}
 use Rattle.conventions.specs.declared.said.Said.{Said}
 use Rattle.conventions.specs.Names.{instructions}
 use Rattle.conventions.specs.Facts.{◌>>=◌, fact_of}
-use Rattle.conventions.specs.Areas.{heap_limit, is_area, is_stack, meets_heap, meets_stack}
-use Rattle.conventions.specs.Said.{as_elf, as_stack, as_heap, as_service, as_exit, as_read, as_write, as_brk, as_errors, as_link, as_call, as_return, as_entry, as_whole, line_of, said_by, facts_of, with_fact}
+use Rattle.conventions.specs.Areas.{heap_limit, is_area, is_stack, is_offset, meets_heap, meets_stack}
+use Rattle.conventions.specs.Said.{as_elf, as_stack, as_heap, as_service, as_exit, as_read, as_write, as_brk, as_errors, as_link, as_call, as_return, as_entry, as_whole, as_pad, line_of, said_by, facts_of, with_fact}
 use Rattle.conventions.specs.Faults.{fault_of, line_fault, first_fault}
 use Rattle.conventions.specs.Normal.{serves, service_kinds, first_missing, missing_fault, shape, service_said, conv_with, conv_of, normal}
 use Rattle.conventions.proofs.Together.{said-push, facts-push}
 use Rattle.conventions.proofs.Steps.{unless_ok}
-use Rattle.conventions.proofs.SoundFacts.{some_is, neither, IsKnown, known_fact, IsPlain, plain_fact, IsSoundStack, AreSoundCells, AreErrorNumbers, IsSoundFact, sound_fact, AreApart, IsApart, heap_apart, stack_apart}
+use Rattle.conventions.proofs.SoundFacts.{some_is, neither, IsKnown, known_fact, IsPlain, plain_fact, IsSoundStack, AreSoundCells, AreErrorNumbers, IsSoundFact, sound_fact, AreApart, IsApart, heap_apart, stack_apart, IsPlaced, first_stack, offset_placed, placed_at}
 
 -- ---- facts of lines without a fault
 
 record AreSoundFacts (m : Machine) (facts : List Fact) : Type 0 where
   each : All (IsSoundFact m) facts
   apart : IsApart (said_by facts)
+  placed : IsPlaced (said_by facts).args (said_by facts).stack
 
 no_facts : (m : Machine) → AreSoundFacts m []
 unfolding line_of
-no_facts m = record { each = All-nil (IsSoundFact m); apart = record { apart = λ s h es eh. absurd (cc) } }
+no_facts m = record { each = All-nil (IsSoundFact m); apart = record { apart = λ s h es eh. absurd (cc) }; placed = tt }
 
 apart_kept : (m : Machine) (said : Said) (line : ℕ) (f : Fact) → IsApart said → IsPlain m said line f → IsApart (with_fact said f)
 apart_kept m said line (Stack t) a p = record {
@@ -57,10 +58,16 @@ apart_kept m said line (Heap g) a p = record {
 }
 apart_kept m said line _ a p = record { apart = a.apart }
 
+placed_kept : (m : Machine) (said : Said) (line : ℕ) (f : Fact) → IsPlaced said.args said.stack → IsPlain m said line f → IsPlaced (with_fact said f).args (with_fact said f).stack
+placed_kept m said line (Stack t) a p = first_stack said.args said.stack t a p.once
+placed_kept m said line (Args n) a p = offset_placed said.stack n (not-false (is_offset said.stack n) p.in_range)
+placed_kept m said line _ a p = a
+
 more_facts : (m : Machine) (facts : List Fact) (f : Fact) (line : ℕ) → AreSoundFacts m facts → IsSoundFact m f → IsPlain m (said_by facts) line f → AreSoundFacts m (facts ++ f ∷ [])
 more_facts m facts f line s h p = record {
   each = All-push (IsSoundFact m) facts f s.each h;
   apart = subst IsApart (sym (said-push facts f)) (apart_kept m (said_by facts) line f s.apart p);
+  placed = subst (λ said. IsPlaced said.args said.stack) (sym (said-push facts f)) (placed_kept m (said_by facts) line f s.placed p);
 }
 
 line_on : (table : List (List ℕ × ℕ)) (named : NamedMachine) (before : List ConvLine) (line : ConvLine) (o : Option Fact) → AreSoundFacts named.machine (facts_of table named before) → fact_of table named line.body ≡ o → IfSome o (IsKnown named.machine)
@@ -168,6 +175,10 @@ whole_is : (m : Machine) (f : Fact) → IsSoundFact m f → IfSome (as_whole f) 
 whole_is m (Whole n) h = h
 whole_is m _ h = tt
 
+pad_is : (m : Machine) (f : Fact) → IsSoundFact m f → IfSome (as_pad f) (IsInstruction m)
+pad_is m (Pad c) h = h
+pad_is m _ h = tt
+
 record IsSoundSaid (m : Machine) (said : Said) : Type 0 where
   elf : IfSome said.elf IsShort
   stack : IfSome said.stack (IsSoundStack m)
@@ -184,6 +195,8 @@ record IsSoundSaid (m : Machine) (said : Said) : Type 0 where
   returns : All (IsInstruction m) said.returns
   entries : All IsWord said.entries
   wholes : All IsWord said.wholes
+  pads : All (IsInstruction m) said.pads
+  placed : IsPlaced said.args said.stack
 
 said_sound : (m : Machine) (facts : List Fact) → AreSoundFacts m facts → IsSoundSaid m (said_by facts)
 said_sound m facts s = record {
@@ -202,6 +215,8 @@ said_sound m facts s = record {
   returns = lines_sound m as_return (IsInstruction m) (return_is m) facts s.each;
   entries = lines_sound m as_entry IsWord (entry_is m) facts s.each;
   wholes = lines_sound m as_whole IsWord (whole_is m) facts s.each;
+  pads = lines_sound m as_pad (IsInstruction m) (pad_is m) facts s.each;
+  placed = s.placed;
 }
 
 -- ---- the service
@@ -274,6 +289,7 @@ conv_sound m said n s h sound en es eh =
       numbers = λ shape e. (some_is (IsSoundShape m) (service_said said) shape e (service_sound m said sound)).numbers;
       entries = sound.entries;
       wholes = sound.wholes;
+      args = λ offset e. placed_at said.args said.stack s offset sound.placed e es;
     }
 
 conv_fits : (m : Machine) (said : Said) (n : ℕ) (s : StackArea) (h : Area) → IsSoundSaid m said → said.stack ≡ Some s → (serves m ≡ true → is_some (service_said said) ≡ true) → FitsMachine (conv_with said n s h) m
@@ -286,6 +302,7 @@ conv_fits m said n s h sound es serving =
       link = if_any m said.link sound.link;
       calls = sound.calls;
       returns = sound.returns;
+      pads = sound.pads;
       service = serving;
     }
 

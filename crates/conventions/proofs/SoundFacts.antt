@@ -1,6 +1,6 @@
 -- What a line without a fault says is sound for the machine.
 use Rattle.std.proofs.Common.{◌≡◌, ◌≢◌, ℕ, zero, suc, ◌+◌, ◌-◌, ◌%◌, ◌^◌, ◌<◌, ◌≤◌, Bool, true, false, cond, ◌&&◌, ◌||◌, nat_eq, List, [], ◌∷◌, length, get_or, Option, Some, None, refl, ap, subst, ◌⊎◌, inl, inr, arith, All, IfSome}
-use Rattle.std.specs.Prelude.{slice_get, slice_index, option_map, option_and_then, unwrap_or, nat_lt, nat_le, not}
+use Rattle.std.specs.Prelude.{slice_get, slice_index, option_map, option_and_then, unwrap_or, nat_lt, nat_le, is_some, not}
 use Rattle.std.specs.List.{list_any}
 use Rattle.std.specs.Map.{lookup}
 use Rattle.std.specs.Option.{option_or}
@@ -14,25 +14,25 @@ use Rattle.rtl_core.specs.declared.machine.NamedMachine.{NamedMachine}
 use Rattle.rtl_core.specs.declared.names.CellGroup.{CellGroup}
 use Rattle.rtl_core.specs.CellNames.{cells_in, cell_at}
 use Rattle.rtl_core.specs.Grounding.{is_of_type}
-use Rattle.rtl_core.specs.SoundConv.{IsArea, IsWord, IsCellOf, IsCellIfAny}
+use Rattle.rtl_core.specs.SoundConv.{IsArea, IsWord, IsArgsOffset, IsCellOf, IsCellIfAny}
 use Rattle.rtl_core.specs.SoundMachine.{NamesItsCells}
 use Rattle.conv_syntax.specs.declared.line.ConvBody.{ConvBody}
 use Rattle.conv_syntax.specs.declared.line.ConvBody.TheVariants as body
 use Rattle.conv_syntax.specs.declared.line.ConvCell.{ConvCell}
 use Rattle.conv_syntax.specs.declared.line.ServiceLine.{ServiceLine}
 use Rattle.conventions.specs.declared.fact.Fact.{Fact}
-use Rattle.conventions.specs.declared.fact.Fact.TheVariants.{Elf, Stack, Heap, Service, Exit, Read, Write, Brk, Errors, Link, Call, Return, Entry, Whole}
+use Rattle.conventions.specs.declared.fact.Fact.TheVariants.{Elf, Stack, Heap, Service, Exit, Read, Write, Brk, Errors, Link, Call, Return, Entry, Whole, Pad, Args}
 use Rattle.conventions.specs.declared.fact.Area.{Area}
 use Rattle.conventions.specs.declared.fact.StackArea.{StackArea}
 use Rattle.conventions.specs.declared.fact.ServiceCells.{ServiceCells}
 use Rattle.conventions.specs.declared.fact.ErrorNumbers.{ErrorNumbers}
 use Rattle.conventions.specs.declared.said.Said.{Said}
 use Rattle.conventions.specs.declared.fault.ConvFault.{ConvFault}
-use Rattle.conventions.specs.declared.fault.ConvFault.TheVariants.{Twice, FieldRange, WidthDiffers}
+use Rattle.conventions.specs.declared.fault.ConvFault.TheVariants.{Unknown, Twice, FieldRange, WidthDiffers}
 use Rattle.conventions.specs.Names.{cell_of, name_of, instruction_numbers, instructions, instruction_of}
 use Rattle.conventions.specs.Facts.{◌>>=◌, error_cell, cells, service_cells, stack_area, fact_of}
-use Rattle.conventions.specs.Areas.{stack_limit, heap_limit, is_area, is_room, is_zero, is_stack, shares, meets_heap, meets_stack}
-use Rattle.conventions.specs.Faults.{is_twice, is_over, is_out_of_range, width_fault, error_width_fault, service_width_fault, widths_fault, fact_fault}
+use Rattle.conventions.specs.Areas.{stack_limit, heap_limit, is_area, is_room, is_zero, is_stack, is_offset, shares, meets_heap, meets_stack}
+use Rattle.conventions.specs.Faults.{is_early, is_twice, is_over, is_out_of_range, width_fault, error_width_fault, service_width_fault, widths_fault, fact_fault}
 
 -- ---- options
 
@@ -136,6 +136,7 @@ IsKnown m (Service found) = AreHere m found
 IsKnown m (Link cell) = IsHere m cell
 IsKnown m (Call c) = is_of_type m 0 c ≡ true
 IsKnown m (Return c) = is_of_type m 0 c ≡ true
+IsKnown m (Pad c) = is_of_type m 0 c ≡ true
 IsKnown m _ = Unit {0}
 
 pub known_fact : (enc : Encodings) (named : NamedMachine) → named.machine.types ≡ enc.types → NamesItsCells named → (b : ConvBody) → IfSome (fact_of (instructions enc) named b) (IsKnown named.machine)
@@ -153,23 +154,28 @@ known_fact enc named types names (body.Call name) = mapped (λ c. is_of_type nam
 known_fact enc named types names (body.Return name) = mapped (λ c. is_of_type named.machine 0 c ≡ true) (IsKnown named.machine) (λ c. Return c) (instruction_of (instructions enc) name) (instruction_known enc named.machine types name) (λ c h. h)
 known_fact enc named types names (body.Entry n) = tt
 known_fact enc named types names (body.Whole n) = tt
+known_fact enc named types names (body.Pad name) = mapped (λ c. is_of_type named.machine 0 c ≡ true) (IsKnown named.machine) (λ c. Pad c) (instruction_of (instructions enc) name) (instruction_known enc named.machine types name) (λ c h. h)
+known_fact enc named types names (body.Args n) = tt
 
 -- ---- ranges and widths
 
 -- no fault of a line whose names are known
 pub record IsPlain (m : Machine) (said : Said) (line : ℕ) (f : Fact) : Type 0 where
+  pub once : is_twice said f ≡ false
   pub in_range : is_out_of_range m said f ≡ false
   pub widths : widths_fault m line f ≡ None
 
-two_tests : (a b : Bool) (x y : ConvFault) (o : Option ConvFault) → cond a (Some x) (cond b (Some y) o) ≡ None → (b ≡ false) × (o ≡ None)
-two_tests true b x y o h = absurd (cc)
-two_tests false true x y o h = absurd (cc)
-two_tests false false x y o h = (refl, h)
+one_test : (b : Bool) (x : ConvFault) (o : Option ConvFault) → cond b (Some x) o ≡ None → (b ≡ false) × (o ≡ None)
+one_test true x o h = absurd (cc)
+one_test false x o h = (refl, h)
 
 pub plain_fact : (m : Machine) (said : Said) (line : ℕ) (f : Fact) → fact_fault m said line f ≡ None → IsPlain m said line f
 plain_fact m said line f h =
-    let t = two_tests (is_twice said f) (is_out_of_range m said f) (Twice line) (FieldRange line) (widths_fault m line f) h in
-    record { in_range = t.0; widths = t.1 }
+    let range : Option ConvFault = cond (is_out_of_range m said f) (Some (FieldRange line)) (widths_fault m line f) in
+    let e = one_test (is_early said f) (Unknown line) (cond (is_twice said f) (Some (Twice line)) range) h in
+    let t = one_test (is_twice said f) (Twice line) range e.1 in
+    let r = one_test (is_out_of_range m said f) (FieldRange line) (widths_fault m line f) t.1 in
+    record { once = t.0; in_range = r.0; widths = r.1 }
 
 fits : (bits n : ℕ) → is_over bits n ≡ false → n < 2 ^ bits
 fits bits n h = ltb-true n (2 ^ bits) (not-false (nat_lt n (2 ^ bits)) h)
@@ -291,6 +297,8 @@ IsSoundFact m (Call c) = is_of_type m 0 c ≡ true
 IsSoundFact m (Return c) = is_of_type m 0 c ≡ true
 IsSoundFact m (Entry n) = IsWord n
 IsSoundFact m (Whole n) = IsWord n
+IsSoundFact m (Pad c) = is_of_type m 0 c ≡ true
+IsSoundFact m (Args n) = Unit {0}
 
 pub sound_fact : (m : Machine) (said : Said) (line : ℕ) (f : Fact) → IsKnown m f → IsPlain m said line f → IsSoundFact m f
 sound_fact m said line (Elf n) k p = fits 16 n p.in_range
@@ -311,6 +319,8 @@ sound_fact m said line (Call c) k p = k
 sound_fact m said line (Return c) k p = k
 sound_fact m said line (Entry n) k p = fits 32 n p.in_range
 sound_fact m said line (Whole n) k p = fits 32 n p.in_range
+sound_fact m said line (Pad c) k p = k
+sound_fact m said line (Args n) k p = tt
 
 -- ---- areas apart
 
@@ -332,3 +342,25 @@ heap_apart o s h e is = apart_is s h (rw is at e)
 
 pub stack_apart : (o : Option StackArea) (s : StackArea) (h : Area) → meets_stack o h ≡ false → o ≡ Some s → AreApart s h
 stack_apart o s h e is = apart_is s h (rw is at e)
+
+-- ---- the place of the arguments
+
+-- where there is one, there is a stack, and it lies in its room
+abbrev pub IsPlaced : Option ℕ → Option StackArea → Type 0
+IsPlaced None stack = Unit {0}
+IsPlaced (Some offset) None = ⊥
+IsPlaced (Some offset) (Some stack) = IsArgsOffset stack.room offset
+
+pub first_stack : (args : Option ℕ) (old : Option StackArea) (stack : StackArea) → IsPlaced args old → is_some old ≡ false → IsPlaced args (Some stack)
+first_stack None old stack h e = tt
+first_stack (Some offset) None stack h e = absurd h
+first_stack (Some offset) (Some s) stack h e = absurd (cc)
+
+pub offset_placed : (stack : Option StackArea) (offset : ℕ) → is_offset stack offset ≡ true → IsPlaced (Some offset) stack
+offset_placed None offset h = absurd (cc)
+offset_placed (Some stack) offset h =
+    let a = and_parts (nat_le offset stack.room) (nat_eq (offset % 4) 0) h in
+    record { within = leb-true offset stack.room a.0; aligned = eqb-true (offset % 4) 0 a.1 }
+
+pub placed_at : (args : Option ℕ) (old : Option StackArea) (stack : StackArea) (offset : ℕ) → IsPlaced args old → args ≡ Some offset → old ≡ Some stack → IsArgsOffset stack.room offset
+placed_at args old stack offset h ea es = rw (ea, es) at h

@@ -12,7 +12,7 @@ use Rattle.conv_syntax.specs.declared.line.ConvLine.{ConvLine}
 use Rattle.conv_syntax.specs.declared.line.ConvBody.{ConvBody}
 use Rattle.conv_syntax.specs.declared.line.ConvBody.TheVariants as body
 use Rattle.conventions.specs.declared.fact.Fact.{Fact}
-use Rattle.conventions.specs.declared.fact.Fact.TheVariants.{Call, Return}
+use Rattle.conventions.specs.declared.fact.Fact.TheVariants.{Call, Return, Pad}
 use Rattle.conventions.specs.declared.said.Said.{Said}
 use Rattle.conventions.specs.declared.fault.ConvFault.{ConvFault}
 use Rattle.conventions.specs.declared.fault.ConvFault.TheVariants.{NoMemory}
@@ -58,6 +58,7 @@ failed m said line (Some g) e h = unless_err (fact_fault m said line g) g e (sym
 same_fact : (found table : List (List ℕ × ℕ)) (named : NamedMachine) → FindsSame found table → (b : ConvBody) → fact_of found named b ≡ fact_of table named b
 same_fact found table named s (body.Call name) = ap (λ o. option_map (λ c. Call c) o) (s.found name)
 same_fact found table named s (body.Return name) = ap (λ o. option_map (λ c. Return c) o) (s.found name)
+same_fact found table named s (body.Pad name) = ap (λ o. option_map (λ c. Pad c) o) (s.found name)
 same_fact found table named s _ = refl
 
 -- the fault of the next line decides

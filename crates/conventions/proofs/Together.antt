@@ -8,7 +8,7 @@ use Rattle.rtl_core.specs.declared.machine.NamedMachine.{NamedMachine}
 use Rattle.conv_syntax.specs.declared.line.ConvLine.{ConvLine}
 use Rattle.conventions.specs.declared.fact.Fact.{Fact}
 use Rattle.conventions.specs.Facts.{fact_of}
-use Rattle.conventions.specs.Said.{as_elf, as_stack, as_heap, as_service, as_exit, as_read, as_write, as_brk, as_errors, as_link, as_call, as_return, as_entry, as_whole, line_of, said_by, facts_of, pushed, with_fact}
+use Rattle.conventions.specs.Said.{as_elf, as_stack, as_heap, as_service, as_exit, as_read, as_write, as_brk, as_errors, as_link, as_call, as_return, as_entry, as_whole, as_pad, as_args, line_of, said_by, facts_of, pushed, with_fact}
 
 or-none : {A : Type 0} (o : Option A) → option_or o None ≡ o
 or-none None = refl
@@ -48,6 +48,8 @@ said-push fs f =
       filter-push as_return fs f,
       filter-push as_entry fs f,
       filter-push as_whole fs f,
+      filter-push as_pad fs f,
+      line-push as_args fs f,
     ) refl
 
 -- one line more, whose names are known

@@ -28,6 +28,11 @@ is_zero (Some zeroed) cell = zeroed == cell
 abbrev pub is_stack : Machine → StackArea → Bool
 is_stack m stack = is_area stack_limit stack.base stack.size && (is_room stack.base stack.size stack.room && not (is_zero m.zero stack.cell))
 
+-- the arguments begin in the room of the stack, at a word
+abbrev pub is_offset : Option StackArea → ℕ → Bool
+is_offset None offset = false
+is_offset (Some stack) offset = nat_le offset stack.room && (offset % 4 == 0)
+
 -- two areas share a byte
 abbrev pub shares : ℕ → ℕ → ℕ → ℕ → Bool
 shares base size other bytes = nat_lt base (other + bytes) && nat_lt other (base + size)

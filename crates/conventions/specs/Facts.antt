@@ -63,3 +63,5 @@ fact_of table named (body.Call name) = option_map (λ c. fact.Call c) (instructi
 fact_of table named (body.Return name) = option_map (λ c. fact.Return c) (instruction_of table name)
 fact_of table named (body.Entry n) = Some (fact.Entry n)
 fact_of table named (body.Whole n) = Some (fact.Whole n)
+fact_of table named (body.Pad name) = option_map (λ c. fact.Pad c) (instruction_of table name)
+fact_of table named (body.Args n) = Some (fact.Args n)

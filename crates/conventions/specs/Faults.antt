@@ -1,18 +1,23 @@
 -- The checks of a line, each with what the lines before it say.
-use Rattle.std.specs.Prelude.{ℕ, ◌^◌, ◌==◌, ◌||◌, not, Bool, false, nat_lt, is_some, List, [], ◌∷◌, ◌++◌, slice_index, Option, Some, None, Result, Ok, Err, if◌then◌else◌}
+use Rattle.std.specs.Prelude.{ℕ, ◌^◌, ◌==◌, ◌||◌, not, Bool, false, nat_lt, is_none, is_some, List, [], ◌∷◌, ◌++◌, slice_index, Option, Some, None, Result, Ok, Err, if◌then◌else◌}
 use Rattle.std.specs.Option.{option_or}
 use Rattle.rtl_core.specs.declared.machine.Machine.{Machine}
 use Rattle.rtl_core.specs.declared.machine.NamedMachine.{NamedMachine}
 use Rattle.conv_syntax.specs.declared.line.ConvLine.{ConvLine}
 use Rattle.conventions.specs.declared.fact.Fact.{Fact}
-use Rattle.conventions.specs.declared.fact.Fact.TheVariants.{Elf, Stack, Heap, Service, Exit, Read, Write, Brk, Errors, Link, Entry, Whole}
+use Rattle.conventions.specs.declared.fact.Fact.TheVariants.{Elf, Stack, Heap, Service, Exit, Read, Write, Brk, Errors, Link, Entry, Whole, Args}
 use Rattle.conventions.specs.declared.fact.ServiceCells.{ServiceCells}
 use Rattle.conventions.specs.declared.said.Said.{Said}
 use Rattle.conventions.specs.declared.fault.ConvFault.{ConvFault}
 use Rattle.conventions.specs.declared.fault.ConvFault.TheVariants.{Unknown, Twice, FieldRange, WidthDiffers}
-use Rattle.conventions.specs.Areas.{heap_limit, is_area, is_stack, meets_heap, meets_stack}
+use Rattle.conventions.specs.Areas.{heap_limit, is_area, is_offset, is_stack, meets_heap, meets_stack}
 use Rattle.conventions.specs.Facts.{fact_of}
 use Rattle.conventions.specs.Said.{said_by, facts_of}
+
+-- a line before the one that it speaks of: `args` before `stack`
+abbrev pub is_early : Said → Fact → Bool
+is_early said (Args n) = is_none said.stack
+is_early said _ = false
 
 -- a second line of a kind that stands once
 abbrev pub is_twice : Said → Fact → Bool
@@ -26,6 +31,7 @@ is_twice said (Write n) = is_some said.write
 is_twice said (Brk n) = is_some said.brk
 is_twice said (Errors numbers) = is_some said.errors
 is_twice said (Link cell) = is_some said.link
+is_twice said (Args n) = is_some said.args
 is_twice said _ = false
 
 -- a number has more than so many bits
@@ -44,6 +50,7 @@ is_out_of_range m said (Brk n) = is_over 32 n
 is_out_of_range m said (Errors numbers) = is_over 32 numbers.fault || (is_over 32 numbers.descriptor || is_over 32 numbers.unknown)
 is_out_of_range m said (Entry n) = is_over 32 n
 is_out_of_range m said (Whole n) = is_over 32 n
+is_out_of_range m said (Args n) = not (is_offset said.stack n)
 is_out_of_range m said _ = false
 
 -- the same two checks of a line that holds one number
@@ -76,9 +83,10 @@ widths_fault m line _ = None
 -- the first fault of a line whose names are known, and of any line
 abbrev pub fact_fault : Machine → Said → ℕ → Fact → Option ConvFault
 fact_fault m said line f =
-    if is_twice said f then Some (Twice line)
+    if is_early said f then Some (Unknown line)
+    else (if is_twice said f then Some (Twice line)
     else (if is_out_of_range m said f then Some (FieldRange line)
-    else widths_fault m line f)
+    else widths_fault m line f))
 
 abbrev pub fault_of : Machine → Said → ℕ → Option Fact → Option ConvFault
 fault_of m said line None = Some (Unknown line)

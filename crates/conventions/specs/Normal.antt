@@ -87,6 +87,8 @@ conv_with said elf stack heap = record {
   returns = said.returns;
   entries = said.entries;
   wholes = said.wholes;
+  pads = said.pads;
+  args = said.args;
 }
 
 -- what stands for a stack and a heap that are not there

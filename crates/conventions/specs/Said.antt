@@ -5,7 +5,7 @@ use Rattle.std.specs.Option.{option_or}
 use Rattle.rtl_core.specs.declared.machine.NamedMachine.{NamedMachine}
 use Rattle.conv_syntax.specs.declared.line.ConvLine.{ConvLine}
 use Rattle.conventions.specs.declared.fact.Fact.{Fact}
-use Rattle.conventions.specs.declared.fact.Fact.TheVariants.{Elf, Stack, Heap, Service, Exit, Read, Write, Brk, Errors, Link, Call, Return, Entry, Whole}
+use Rattle.conventions.specs.declared.fact.Fact.TheVariants.{Elf, Stack, Heap, Service, Exit, Read, Write, Brk, Errors, Link, Call, Return, Entry, Whole, Pad, Args}
 use Rattle.conventions.specs.declared.fact.Area.{Area}
 use Rattle.conventions.specs.declared.fact.StackArea.{StackArea}
 use Rattle.conventions.specs.declared.fact.ServiceCells.{ServiceCells}
@@ -71,6 +71,14 @@ abbrev pub as_whole : Fact → Option ℕ
 as_whole (Whole a) = Some a
 as_whole _ = None
 
+abbrev pub as_pad : Fact → Option ℕ
+as_pad (Pad c) = Some c
+as_pad _ = None
+
+abbrev pub as_args : Fact → Option ℕ
+as_args (Args n) = Some n
+as_args _ = None
+
 -- ---- all facts
 
 -- what the line of a kind says, where there is one; the last where there are more
@@ -95,6 +103,8 @@ said_by facts = record {
   returns = filter_map as_return facts;
   entries = filter_map as_entry facts;
   wholes = filter_map as_whole facts;
+  pads = filter_map as_pad facts;
+  args = line_of as_args facts;
 }
 
 -- the facts of lines whose names are known
@@ -125,4 +135,6 @@ with_fact said f = record {
   returns = pushed (as_return f) said.returns;
   entries = pushed (as_entry f) said.entries;
   wholes = pushed (as_whole f) said.wholes;
+  pads = pushed (as_pad f) said.pads;
+  args = option_or (as_args f) said.args;
 }

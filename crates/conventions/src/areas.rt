@@ -1,6 +1,6 @@
 //! Areas of memory that may stand.
 ghost use Rattle.std.specs.Prelude.{◌≡◌, ◌<◌, ◌^◌, if◌then◌else◌, Some, None};
-ghost use Rattle.conventions.specs.Areas.{is_area, is_room, is_stack, is_zero, meets_heap, meets_stack, shares};
+ghost use Rattle.conventions.specs.Areas.{is_area, is_offset, is_room, is_stack, is_zero, meets_heap, meets_stack, shares};
 ghost use Rattle.conventions.specs.Facts.{area, stack_area};
 
 use super::fact::{Area, StackArea};
@@ -62,6 +62,16 @@ pub fn stack(machine: &Machine, line: &StackLine, cell: u8) -> Option<StackArea>
         size: area.size,
         room: line.room as u32,
     })
+}
+
+/// The offset of the arguments above the first value of the stack cell: within the room, and a multiple of 4.
+pub fn offset(stack: StackArea, offset: u64) -> Option<u32>
+    ensures { result ≡ (if is_offset (Some stack) offset then Some offset else None) }
+{
+    if offset > u64::from(stack.room) || offset % 4 != 0 {
+        return None;
+    }
+    Some(offset as u32)
 }
 
 /// Two areas share a byte.

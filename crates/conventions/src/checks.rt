@@ -7,7 +7,7 @@ ghost use Rattle.conventions.specs.Names.{instruction_of};
 ghost use Rattle.conventions.specs.Facts.{area, error_numbers, fact_of};
 ghost use Rattle.conventions.specs.Faults.{checked, error_width_fault, known_instruction, number_fault, service_width_fault, unless, width_fault};
 
-use super::areas::{HEAP_LIMIT, area, meets_heap, meets_stack, stack};
+use super::areas::{HEAP_LIMIT, area, meets_heap, meets_stack, offset, stack};
 use super::fact::{ErrorNumbers, Fact, ServiceCells};
 use super::fault::ConvFault;
 use super::instructions::Instructions;
@@ -194,6 +194,22 @@ fn errors_fact(
     }))
 }
 
+/// The offset of an `args` line, behind a `stack` line.
+fn args_fact(said: &Said, line: u32, above: u64) -> Result<Fact, ConvFault>
+    ensures { (machine : Machine) → result ≡ checked machine said.now line (Some (fact.Args above)) }
+{
+    let Some(stack) = said.stack else {
+        return Err(ConvFault::Unknown { line });
+    };
+    if said.args.is_some() {
+        return Err(ConvFault::Twice { line });
+    }
+    let Some(found) = offset(stack, above) else {
+        return Err(ConvFault::FieldRange { line });
+    };
+    Ok(Fact::Args(found))
+}
+
 /// The instruction of a name.
 fn instruction(instructions: &Instructions, line: u32, name: &[u8]) -> Result<u16, ConvFault>
     ensures { result ≡ known_instruction line (instruction_of instructions.now name.now) }
@@ -233,5 +249,9 @@ pub fn checked(known: &Known<'_>, said: &Said, line: &ConvLine) -> Result<Fact, 
         },
         ConvBody::Entry(address) => Ok(Fact::Entry(number(at, false, *address)?)),
         ConvBody::Whole(address) => Ok(Fact::Whole(number(at, false, *address)?)),
+        ConvBody::Pad(name) => {
+            Ok(Fact::Pad(instruction(&known.instructions, at, name.as_slice())?))
+        },
+        ConvBody::Args(above) => args_fact(said, at, *above),
     }
 }

@@ -17,6 +17,8 @@ pub enum Fact {
     Return(u16),
     Entry(u32),
     Whole(u32),
+    Pad(u16),
+    Args(u32),
 }
 
 /// An area of memory in bytes.

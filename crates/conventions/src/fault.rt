@@ -7,14 +7,15 @@ use thiserror::Error;
 /// What is wrong with the lines of a convention file. `line` is the number of the line.
 #[derive(Clone, Copy, Debug, PartialEq, Eq, Drop, Error)]
 pub enum ConvFault {
-    /// A cell that the machine does not have, an index at or over its file's count, or a name of no instruction.
+    /// A cell that the machine does not have, an index at or over its file's count, a name of no instruction, or
+    /// `args` where no `stack` line stands before it.
     #[error("line {line}: an unknown name")]
     Unknown { line: u32 },
     /// A second line of a kind that stands once.
     #[error("line {line}: given twice")]
     Twice { line: u32 },
-    /// A number that its place cannot hold, an area that cannot stand or that shares a byte with the other area, or
-    /// the zero cell as the stack cell.
+    /// A number that its place cannot hold, an area that cannot stand or that shares a byte with the other area,
+    /// the zero cell as the stack cell, or an offset of `args` that is over the room or no multiple of 4.
     #[error("line {line}: out of range")]
     FieldRange { line: u32 },
     /// A cell of `right` bits where `left` are asked for.

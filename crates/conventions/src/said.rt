@@ -27,6 +27,8 @@ pub struct Said {
     pub returns: Items<u16>,
     pub entries: Items<u32>,
     pub wholes: Items<u32>,
+    pub pads: Items<u16>,
+    pub args: Option<u32>,
 }
 
 impl Said {
@@ -50,6 +52,8 @@ impl Said {
             returns: Items::new(alloc),
             entries: Items::new(alloc),
             wholes: Items::new(alloc),
+            pads: Items::new(alloc),
+            args: None,
         }
     }
 
@@ -72,6 +76,8 @@ impl Said {
             Fact::Return(constructor) => self.returns.push(constructor)?,
             Fact::Entry(address) => self.entries.push(address)?,
             Fact::Whole(address) => self.wholes.push(address)?,
+            Fact::Pad(constructor) => self.pads.push(constructor)?,
+            Fact::Args(offset) => self.args = Some(offset),
         }
         Ok(())
     }
@@ -154,6 +160,8 @@ impl Said {
             returns: self.returns,
             entries: self.entries,
             wholes: self.wholes,
+            pads: self.pads,
+            args: self.args,
         })
     }
 }

@@ -1,5 +1,5 @@
 -- A constructor is read as an operand, and an instruction's operands are read whole.
-use Rattle.std.proofs.Common.{◌≡◌, ℕ, zero, suc, ◌-◌, ◌<◌, ◌≤◌, List, length, drop, map, Option, None, Some, sym, ◌∙◌, arith, slice_get, option_map, option_and_then}
+use Rattle.std.proofs.Common.{◌≡◌, ℕ, zero, suc, ◌-◌, ◌<◌, ◌≤◌, List, length, drop, map, None, Some, sym, ◌∙◌, arith, slice_get, option_map, option_and_then}
 use Rattle.std.proofs.lemmas.List.{drop_more, drop_all}
 use Rattle.rtl_core.specs.Grounding.{Argument, operands_read, chosen_read, template_argument, all_read}
 use Rattle.rtl_core.specs.GroundData.{argument_of}

@@ -2,9 +2,7 @@
 use Rattle.std.specs.Prelude.{ℕ, List, Option, option_map, drop, map}
 use Rattle.rtl_core.specs.Grounding.{Place, Whole, Bits, Bytes, Argument, Number, Value, At, Site}
 use Rattle.rtl_core.specs.declared.site.Place.{Place as CodePlace}
-use Rattle.rtl_core.specs.declared.site.Place.TheVariants as CodePlace
 use Rattle.rtl_core.specs.declared.site.Argument.{Argument as CodeArgument}
-use Rattle.rtl_core.specs.declared.site.Argument.TheVariants as CodeArgument
 use Rattle.rtl_core.specs.declared.site.Site.{Site as CodeSite}
 
 -- the place

@@ -34,6 +34,11 @@ pub record AreServiceNumbers (s : ServiceShape) : Type 0 where
   pub descriptor : IsWord s.descriptor
   pub unknown : IsWord s.unknown
 
+-- the block of the arguments stands at a word above the first value of the stack cell, in its room
+pub record IsArgsOffset (room offset : ℕ) : Type 0 where
+  pub within : offset ≤ room
+  pub aligned : offset % 4 ≡ 0
+
 -- sound conventions: heap and stack lie apart, and the first value of the stack cell is in the stack and has 32 bits
 pub record IsSoundConv (conv : Conv) : Type 0 where
   pub elf : conv.elf < 2 ^ 16
@@ -46,6 +51,7 @@ pub record IsSoundConv (conv : Conv) : Type 0 where
   pub numbers : (s : ServiceShape) → conv.service ≡ Some s → AreServiceNumbers s
   pub entries : All IsWord conv.entries
   pub wholes : All IsWord conv.wholes
+  pub args : (offset : ℕ) → conv.args ≡ Some offset → IsArgsOffset conv.room offset
 
 -- ---- for a machine
 
@@ -72,7 +78,7 @@ abbrev pub calls_service : Template → Bool
 calls_service (Acts ts) = list_any (λ t. is_tservice t.act) ts
 calls_service _ = false
 
--- conventions that are sound for a machine: cells of the right widths, calls and returns are instructions, and
+-- conventions that are sound for a machine: cells of the right widths, calls, returns and pads are instructions, and
 -- a service where a template calls it
 pub record FitsMachine (conv : Conv) (m : Machine) : Type 0 where
   pub stack : IsCellOf m 32 conv.stack_cell
@@ -81,6 +87,7 @@ pub record FitsMachine (conv : Conv) (m : Machine) : Type 0 where
   pub link : IsCellIfAny m 32 conv.link
   pub calls : All (λ c. is_of_type m 0 c ≡ true) conv.calls
   pub returns : All (λ c. is_of_type m 0 c ≡ true) conv.returns
+  pub pads : All (λ c. is_of_type m 0 c ≡ true) conv.pads
   pub service : IsTrue (list_any (λ form. calls_service form.template) m.forms) → IsTrue (is_some conv.service)
 
 -- a sound triple

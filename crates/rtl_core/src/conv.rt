@@ -33,15 +33,20 @@ pub struct Conv {
     pub heap_base: u32,
     pub heap_size: u32,
     pub service: Option<ServiceShape>,
-    /// The cell that holds a call's return address.
+    /// The cell in which a call leaves the address by which its procedure returns.
     pub link: Option<u8>,
-    /// The constructors that make calls, and those that make returns.
+    /// The constructors that make calls, and those that make returns; one in both makes calls.
     pub calls: Items<u16>,
     pub returns: Items<u16>,
     /// Procedures that no call names.
     pub entries: Items<u32>,
     /// Procedures that need every cell.
     pub wholes: Items<u32>,
+    /// The constructors that may stand at a return address and be passed over by the return.
+    pub pads: Items<u16>,
+    /// How far above the first value of the stack cell the block of a program's arguments stands; `None` where
+    /// the conventions have no place for it.
+    pub args: Option<u32>,
 }
 
 /// What a service needs beside its cells, from conventions or from a C text.

@@ -1,4 +1,7 @@
 //! Expressions of transfers.
+ghost use Rattle.std.specs.Prelude.{◌≡◌};
+ghost use Rattle.rtl_core.specs.Arithmetic.{is_comparison, is_division, result_width};
+
 use crate::width::Width;
 use sqlite_items::Boxed;
 
@@ -40,6 +43,32 @@ pub enum Bin {
     LtS,
     LeU,
     LeS,
+}
+
+impl Bin {
+    /// Whether the operator stops where its second operand is 0.
+    pub fn divides(self) -> bool
+        ensures { result ≡ is_division self }
+    {
+        matches!(self, Bin::DivU | Bin::DivS | Bin::RemU | Bin::RemS)
+    }
+
+    /// Whether the result is 1 bit, whatever the operands' width.
+    pub fn compares(self) -> bool
+        ensures { result ≡ is_comparison self }
+    {
+        matches!(
+            self,
+            Bin::Eq | Bin::Ne | Bin::LtU | Bin::LtS | Bin::LeU | Bin::LeS
+        )
+    }
+
+    /// The width of the result, from that of the operands.
+    pub fn width_of_result(self, w: u8) -> u8
+        ensures { result ≡ result_width self w }
+    {
+        if self.compares() { 1 } else { w }
+    }
 }
 
 /// A value of 1 to 64 bits, over the cells and the memory of a machine.

@@ -1,7 +1,7 @@
 //! Points of a program: an address, and the jump that is still to come.
 
 /// The jump that is still to come at a point; on a machine without delay always `Seq`.
-#[derive(Clone, Copy, Debug, PartialEq, Eq)]
+#[derive(Clone, Copy, Debug, PartialEq, Eq, PartialOrd, Ord, Hash)]
 pub enum Slot {
     /// None.
     Seq,
@@ -18,7 +18,7 @@ pub enum Slot {
 }
 
 /// An instruction's address, and the jump that is still to come there.
-#[derive(Clone, Copy, Debug, PartialEq, Eq)]
+#[derive(Clone, Copy, Debug, PartialEq, Eq, PartialOrd, Ord, Hash)]
 pub struct Point {
     pub pc: u32,
     pub slot: Slot,

@@ -19,13 +19,15 @@ pub enum Stop {
     WindowFull,
     /// A restore where none is saved.
     WindowEmpty,
-    /// A jump to an address that is not code, or that the translation does not know.
+    /// An address at which control stands and that is no code, or a computed target that is neither in its jump's
+    /// table nor, where a procedure would be entered, the beginning of one.
     Undiscovered(u32),
-    /// A return to an address other than that of the last call.
+    /// A return without an open call, or to an address that is neither the return address of the last one nor its
+    /// second return point.
     ReturnMismatch(u32),
-    /// A call where 65,536 calls are open.
+    /// A call or a tail jump where the call list has 65,536 members.
     CallDepth,
-    /// A jump where the machine's control allows none.
+    /// A jump or an annul in a slot that allows none.
     Couple(u32),
     /// A C text that has no meaning at this item.
     Undefined(u32),

@@ -1,11 +1,11 @@
 //! The transfers of one instruction, done in order.
-ghost use Rattle.std.specs.Prelude.{◌≡◌, ◌≤◌, ◌+◌, ◌-◌, ◌^◌, ◌<◌, ℕ, List, length, All};
+ghost use Rattle.std.specs.Prelude.{◌≡◌, ◌≤◌, ◌+◌, ◌-◌, ◌^◌, ◌<◌, ℕ, List, All};
 ghost use Rattle.rtl_core.specs.declared.transfer.Act.{Act};
 ghost use Rattle.rtl_core.specs.declared.transfer.Transfer.{Transfer};
 ghost use Rattle.rtl_core.specs.Arithmetic.{with_bits as bits_put};
 ghost use Rattle.rtl_core.specs.SoundTerms.{AreWidths, HasWidth, IsSoundTerm, IsSoundAct, IsSoundGuard, IsSoundTransfer, Fit};
 ghost use Rattle.rtl_core.specs.Terms.{term_of};
-ghost use Rattle.rtl_core.specs.Transfers.{acted, transferred, all_transferred, fresh, put_cell as with_cell, stop_of as stop_for};
+ghost use Rattle.rtl_core.specs.Transfers.{acted, transferred, all_transferred, fresh, stop_of as stop_for};
 ghost use Rattle.rtl_core.specs.Value.{value_of};
 ghost use Rattle.rtl_meaning.specs.declared.effect.Effect.{Effect};
 ghost use Rattle.rtl_meaning.specs.Effects.{doing, finished, ended, guided, or_stop};
@@ -198,7 +198,7 @@ fn set_cell<M: Memory>(
         ≡ ended result (doing cells.new.values (M.contents mem.now) saved effect) }
 {
     let v = value(machine, pc, e, cells, mem)?;
-    put_cell(machine.zero, cell, v, cells);
+    cells.put(machine.zero, cell, v);
     Ok(())
 }
 
@@ -223,7 +223,7 @@ fn set_slice<M: Memory>(
 {
     let v = value(machine, pc, e, cells, mem)?;
     let before = cells.values.as_slice()[cell as usize];
-    put_cell(machine.zero, cell, with_bits(lo, hi, before, v), cells);
+    cells.put(machine.zero, cell, with_bits(lo, hi, before, v));
     Ok(())
 }
 
@@ -342,19 +342,9 @@ fn stop_of(pc: u32, trap: Trap) -> Stop
     }
 }
 
-/// Puts a value into a cell; the zero cell stays.
-fn put_cell(zero: Option<u8>, cell: u8, value: u64, cells: &mut Cells)
-    requires { cell < length cells.old.values }
-    ensures { cells.new.values ≡ with_cell zero cell value cells.old.values }
-{
-    if zero != Some(cell) {
-        cells.values.set(cell as usize, value);
-    }
-}
-
-/// The number `x` with its bits `lo` to `hi` taken out and `v` put in.
+/// The number `x` with its bits `lo` to `hi`, both included, taken out and `v` put in.
 #[tactic(auto, using(crate::proofs::ActSteps::bit_laws))]
-fn with_bits(lo: u8, hi: u8, x: u64, v: u64) -> u64
+pub fn with_bits(lo: u8, hi: u8, x: u64, v: u64) -> u64
     requires order { lo ≤ hi }
     requires within { hi < 64 }
     requires value { v < 2 ^ (hi + 1 - lo) }

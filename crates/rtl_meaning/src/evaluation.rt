@@ -1,6 +1,6 @@
 //! The value and the width of an expression.
 ghost use Rattle.std.specs.Prelude.{◌≡◌, ◌<◌, ◌^◌, ◌==◌, ◌&&◌, if◌then◌else◌, Ok, Err};
-ghost use Rattle.rtl_core.specs.Arithmetic.{binary, result_width, is_division, is_comparison};
+ghost use Rattle.rtl_core.specs.Arithmetic.{binary, is_division};
 ghost use Rattle.rtl_core.specs.Terms.{term_of, width_of};
 ghost use Rattle.rtl_core.specs.Value.{value_of};
 ghost use Rattle.rtl_core.specs.SoundTerms.{IsWidth, Fit};
@@ -65,7 +65,7 @@ pub fn width_of_expr(machine: &Machine, e: &Expr) -> u8
         Expr::Cell(c) => machine.widths.as_slice()[*c as usize].bits(),
         Expr::Load(n, _) => 8 * *n,
         Expr::Un(_, a) | Expr::If(_, a, _) => width_of_expr(machine, a.get()),
-        Expr::Bin(op, a, _) => width_of_result(*op, width_of_expr(machine, a.get())),
+        Expr::Bin(op, a, _) => op.width_of_result(width_of_expr(machine, a.get())),
         Expr::Slice(_, lo, hi) => *hi + 1 - *lo,
     }
 }
@@ -77,32 +77,8 @@ fn combine(op: Bin, w: u8, x: u64, y: u64) -> Result<u64, Trap>
     requires right { y < 2 ^ w }
     ensures { result ≡ (if is_division op && (y == 0) then Err Trap.Divide else Ok (binary op w x y)) }
 {
-    if divides(op) && y == 0 {
+    if op.divides() && y == 0 {
         return Err(Trap::Divide);
     }
     Ok(apply(op, w, x, y))
-}
-
-/// The width of an operator's result, from that of its operands.
-fn width_of_result(op: Bin, w: u8) -> u8
-    ensures { result ≡ result_width op w }
-{
-    if compares(op) { 1 } else { w }
-}
-
-/// Whether the result is 1 bit.
-fn compares(op: Bin) -> bool
-    ensures { result ≡ is_comparison op }
-{
-    matches!(
-        op,
-        Bin::Eq | Bin::Ne | Bin::LtU | Bin::LtS | Bin::LeU | Bin::LeS
-    )
-}
-
-/// Whether the second operand may not be 0.
-fn divides(op: Bin) -> bool
-    ensures { result ≡ is_division op }
-{
-    matches!(op, Bin::DivU | Bin::DivS | Bin::RemU | Bin::RemS)
 }

@@ -8,7 +8,7 @@ mod evaluation;
 mod window_moves;
 mod windows;
 
-pub use acts::run_acts;
+pub use acts::{run_acts, with_bits};
 pub use arithmetic::{apply, apply_un, bits, sign_extend};
 pub use effect::Effect;
 pub use evaluation::{eval, width_of_expr};

@@ -139,20 +139,9 @@ fn put_result(zero: Option<u8>, shape: &ServiceShape, value: u32, flag: u64, cel
     requires error { IfSome shape.now.error (λ c. c < length cells.old.values) }
     ensures { cells.new.values ≡ flagged zero shape.now.error flag (with_cell zero shape.now.result value cells.old.values) }
 {
-    put_cell(zero, shape.result, u64::from(value), cells);
+    cells.put(zero, shape.result, u64::from(value));
     if let Some(c) = shape.error {
-        put_cell(zero, c, flag, cells);
-    }
-}
-
-/// Puts a value into a cell; the zero cell stays.
-fn put_cell(zero: Option<u8>, cell: u8, value: u64, cells: &mut Cells)
-    requires { cell < length cells.old.values }
-    ensures value { cells.new.values ≡ with_cell zero cell value cells.old.values }
-    ensures count { length cells.new.values ≡ length cells.old.values }
-{
-    if zero != Some(cell) {
-        cells.values.set(usize::from(cell), value);
+        cells.put(zero, c, flag);
     }
 }
 

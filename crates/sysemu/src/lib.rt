@@ -9,6 +9,3 @@ pub use cell_service::{Served, serve};
 pub use rtl_core::Reply;
 pub use services::reply;
 pub use streams::Streams;
-
-#[cfg(test)]
-mod tests;

@@ -1,4 +1,4 @@
-use Rattle.std.proofs.Common.{ℕ, ◌≡◌, ◌+◌, ◌==◌, List, Option, None, false, refl, sym, ap, ◌∙◌, ◌≢◌, arith, slice_get, slice_index, unwrap_or}
+use Rattle.std.proofs.Common.{ℕ, ◌≡◌, ◌+◌, ◌==◌, List, None, false, sym, ap, ◌∙◌, ◌≢◌, arith, slice_get, slice_index, unwrap_or}
 use Rattle.std.proofs.lemmas.Bool.{ne_eqb}
 use Rattle.std.proofs.lemmas.Option.{unwrap_or-slice_get}
 use Rattle.rtl_core.proofs.site.is_last.Goals as goal
