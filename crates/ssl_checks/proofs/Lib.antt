@@ -1,6 +1,4 @@
-pub mod KnownLaws
-pub mod CountedLaws
-pub mod MeasureLaws
+pub mod CallLaws
 pub mod ArgumentLemmas
 pub mod WindowLemmas
 pub mod FirstLemmas

@@ -11,7 +11,7 @@ use ssl_syntax::{SslAct, SslExpr, SslPlace, SslTransfer};
 
 /// Whether every call of an expression has the right number of arguments.
 #[cycle(counted)]
-#[tactic(auto, using(crate::proofs::CountedLaws::counted_laws))]
+#[tactic(auto, using(ssl_syntax::proofs::FoldLaws::fold_laws))]
 pub fn is_counted_expr(names: &LineNames, e: &SslExpr) -> bool
     ensures { result ≡ is_counted_expr (scope names.now) e.now }
 {

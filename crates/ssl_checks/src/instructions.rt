@@ -9,6 +9,7 @@ ghost use Rattle.ssl_rules.specs.Widths.{is_transfer_in_range, transfer_differs,
 
 use crate::counted::is_counted_transfer;
 use crate::known::is_known_transfer;
+use crate::known_names::KnownNames;
 use crate::measures::or;
 use crate::places::act_assigns_place;
 use crate::transfers::{is_transfer_in_range, transfer_differs};
@@ -16,8 +17,8 @@ use ssl_rules::{LineNames, Mismatch};
 use ssl_syntax::SslTransfer;
 
 /// Whether every name is known.
-pub fn are_known_transfers(names: &LineNames, windows: bool, transfers: &[SslTransfer]) -> bool
-    ensures { result ≡ list_all (is_known_transfer (scope names.now) windows) transfers.now }
+pub fn are_known_transfers(names: &KnownNames, windows: bool, transfers: &[SslTransfer]) -> bool
+    ensures { result ≡ list_all (is_known_transfer names.now.surplus.now (scope names.now.line) windows) transfers.now }
 {
     for transfer in transfers {
         if !is_known_transfer(names, windows, transfer) {

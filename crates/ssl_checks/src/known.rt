@@ -4,21 +4,22 @@ ghost use Rattle.std.specs.List.{list_all};
 ghost use Rattle.ssl_rules.specs.LineScope.{scope};
 ghost use Rattle.ssl_rules.specs.Known.{is_known_expr, is_known_place, is_known_act, is_known_guard, is_known_transfer, is_known_part};
 
-use ssl_rules::{LineNames, Tables};
+use crate::known_names::KnownNames;
+use ssl_rules::Tables;
 use ssl_syntax::{SslAct, SslExpr, SslPlace, SslTransfer, ViewPart};
 
 /// Whether every name of an expression is known.
 #[cycle(known)]
-#[tactic(auto, using(crate::proofs::KnownLaws::known_laws))]
-pub fn is_known_expr(names: &LineNames, e: &SslExpr) -> bool
-    ensures { result ≡ is_known_expr (scope names.now) e.now }
+#[tactic(auto, using(ssl_syntax::proofs::FoldLaws::fold_laws))]
+pub fn is_known_expr(names: &KnownNames, e: &SslExpr) -> bool
+    ensures { result ≡ is_known_expr names.now.surplus.now (scope names.now.line) e.now }
 {
     match e {
         SslExpr::Number(_, _) => true,
-        SslExpr::Named(name) => names.lone(name.as_slice()).is_some(),
-        SslExpr::At(name, _) => names.tables.file(name.as_slice()).is_some(),
+        SslExpr::Named(name) => names.is_lone(name.as_slice()),
+        SslExpr::At(name, _) => names.is_file(name.as_slice()),
         SslExpr::AtOp(name, op) => {
-            names.tables.file(name.as_slice()).is_some() && names.field(op.as_slice()).is_some()
+            names.is_file(name.as_slice()) && names.is_field(op.as_slice())
         }
         SslExpr::Load(_, a) => is_known_expr(names, a.get()),
         SslExpr::Not(a) => is_known_expr(names, a.get()),
@@ -33,7 +34,7 @@ pub fn is_known_expr(names: &LineNames, e: &SslExpr) -> bool
                 && is_known_expr(names, b.get())
         }
         SslExpr::Call(name, args) => {
-            names.tables.function(name.as_slice()).is_some() && are_known(names, args.as_slice())
+            names.is_function(name.as_slice()) && are_known(names, args.as_slice())
         }
         SslExpr::Pc => true,
         SslExpr::Next => true,
@@ -42,8 +43,8 @@ pub fn is_known_expr(names: &LineNames, e: &SslExpr) -> bool
 
 /// Whether every name of some expressions is known.
 #[cycle(known)]
-fn are_known(names: &LineNames, es: &[SslExpr]) -> bool
-    ensures { result ≡ list_all (is_known_expr (scope names.now)) es.now }
+fn are_known(names: &KnownNames, es: &[SslExpr]) -> bool
+    ensures { result ≡ list_all (is_known_expr names.now.surplus.now (scope names.now.line)) es.now }
 {
     for e in es {
         if !is_known_expr(names, e) {
@@ -54,23 +55,23 @@ fn are_known(names: &LineNames, es: &[SslExpr]) -> bool
 }
 
 /// Whether the names of what is assigned are known.
-pub fn is_known_place(names: &LineNames, place: &SslPlace) -> bool
-    ensures { result ≡ is_known_place (scope names.now) place.now }
+pub fn is_known_place(names: &KnownNames, place: &SslPlace) -> bool
+    ensures { result ≡ is_known_place names.now.surplus.now (scope names.now.line) place.now }
 {
     match place {
-        SslPlace::Named(name) => names.lone(name.as_slice()).is_some(),
-        SslPlace::At(name, _) => names.tables.file(name.as_slice()).is_some(),
+        SslPlace::Named(name) => names.is_lone(name.as_slice()),
+        SslPlace::At(name, _) => names.is_file(name.as_slice()),
         SslPlace::AtOp(name, op) => {
-            names.tables.file(name.as_slice()).is_some() && names.field(op.as_slice()).is_some()
+            names.is_file(name.as_slice()) && names.is_field(op.as_slice())
         }
-        SslPlace::Bits(cell, _, _) => names.tables.is_cell(cell),
+        SslPlace::Bits(cell, _, _) => names.is_cell(cell),
         SslPlace::Load(_, address) => is_known_expr(names, address),
     }
 }
 
 /// Whether the names of an act are known; a window move asks for windows.
-fn is_known_act(names: &LineNames, windows: bool, act: &SslAct) -> bool
-    ensures { result ≡ is_known_act (scope names.now) windows act.now }
+fn is_known_act(names: &KnownNames, windows: bool, act: &SslAct) -> bool
+    ensures { result ≡ is_known_act names.now.surplus.now (scope names.now.line) windows act.now }
 {
     match act {
         SslAct::Assign(_, to, value) => is_known_place(names, to) && is_known_expr(names, value),
@@ -84,8 +85,8 @@ fn is_known_act(names: &LineNames, windows: bool, act: &SslAct) -> bool
 }
 
 /// Whether the names of a guard are known, where there is one.
-fn is_known_guard(names: &LineNames, guard: &Option<SslExpr>) -> bool
-    ensures { result ≡ is_known_guard (scope names.now) guard.now }
+fn is_known_guard(names: &KnownNames, guard: &Option<SslExpr>) -> bool
+    ensures { result ≡ is_known_guard names.now.surplus.now (scope names.now.line) guard.now }
 {
     match guard {
         None => true,
@@ -94,8 +95,8 @@ fn is_known_guard(names: &LineNames, guard: &Option<SslExpr>) -> bool
 }
 
 /// Whether the names of a transfer are known.
-pub fn is_known_transfer(names: &LineNames, windows: bool, transfer: &SslTransfer) -> bool
-    ensures { result ≡ is_known_transfer (scope names.now) windows transfer.now }
+pub fn is_known_transfer(names: &KnownNames, windows: bool, transfer: &SslTransfer) -> bool
+    ensures { result ≡ is_known_transfer names.now.surplus.now (scope names.now.line) windows transfer.now }
 {
     is_known_guard(names, &transfer.guard) && is_known_act(names, windows, &transfer.act)
 }

@@ -5,6 +5,7 @@ mod counted;
 mod instructions;
 mod jumps;
 mod known;
+mod known_names;
 mod measures;
 mod named_widths;
 mod places;
@@ -20,11 +21,9 @@ pub use instructions::{
 };
 pub use jumps::are_single;
 pub use known::{is_known_expr, is_known_part};
+pub use known_names::KnownNames;
 pub use measures::{asked, measure};
 pub use ranges::{in_width, is_width};
 pub use transfers::{is_transfer_in_range, transfer_differs};
 pub use views::{are_parts_in_range, parts_differ};
 pub use windows::{are_windows, is_zero, windows_differ};
-
-#[cfg(test)]
-mod tests;

@@ -16,7 +16,7 @@ use ssl_syntax::SslExpr;
 
 /// The width of an expression, and the first two widths in it that differ.
 #[cycle(measure)]
-#[tactic(auto, using(crate::proofs::MeasureLaws::measure_laws))]
+#[tactic(auto, using(ssl_syntax::proofs::FoldLaws::fold_laws, crate::proofs::CallLaws::measured_call))]
 pub fn measure(names: &LineNames, e: &SslExpr) -> Measure
     ensures { result ≡ measured (scope names.now) e.now }
 {

@@ -13,9 +13,9 @@ use Rattle.ssl_rules.specs.declared.widths.Mismatch.{Mismatch}
 use Rattle.ssl_rules.specs.Known.{is_known_expr, is_known_transfer}
 use Rattle.ssl_rules.specs.Widths.{measured}
 use Rattle.ssl_rules.specs.Given.{Given, constructor_named, has_template, kinds_of, named_constructor, own_operands, own_params, type_of, type_width}
-use Rattle.ssl_rules.specs.Checks.{differing, is_known, is_known_kind, is_once, kinds_named, scope_of, template_differs}
+use Rattle.ssl_rules.specs.Checks.{differing, is_known, is_known_kind, is_once, kinds_named, scope_of, surplus_of, template_differs}
 use Rattle.ssl_core.specs.Fresh.{are_fresh}
-use Rattle.ssl_core.specs.Heads.{is_head}
+use Rattle.ssl_core.specs.Heads.{is_head, surplus_at}
 use Rattle.ssl_core.specs.MoreTemplates.{scope_with}
 use Rattle.ssl_core.specs.OwnNames.{FindSame, constructor_of, own_of}
 use Rattle.ssl_core.specs.TypeWidths.{against}
@@ -47,34 +47,40 @@ line_differs enc g b name ops e o own is h n =
 -- ---- names
 
 -- names that are known by a table that finds the same
-pub function_known : (enc : Encodings) (g : Given) (b : SslBody) (name : List ℕ) (ps : List ParamLine) (e : SslExpr) (own : List (List ℕ × Own)) → b ≡ body.Function name ps e
-    → FindSame own (own_of enc g b) → is_known_expr (scope_with g.tables own) e ≡ is_known enc g b
-function_known enc g b name ps e own is same =
-    expr_same g.tables own (own_params 0 ps) (subst (λ b. FindSame own (own_of enc g b)) is same) e ∙ ap (is_known enc g) (sym is)
+pub function_known : (enc : Encodings) (g : Given) (b : SslBody) (name : List ℕ) (ps : List ParamLine) (e : SslExpr) (o : Option ℕ) (own : List (List ℕ × Own)) (surplus : List (List ℕ))
+    → b ≡ body.Function name ps e → surplus ≡ surplus_at enc o b → FindSame own (own_of enc g b) → is_known_expr surplus (scope_with g.tables own) e ≡ is_known enc g b
+function_known enc g b name ps e o own surplus is behind same =
+    ap (λ u. is_known_expr u (scope_with g.tables own) e) (behind ∙ ap (surplus_at enc o) is)
+    ∙ expr_same [] g.tables own (own_params 0 ps) (subst (λ b. FindSame own (own_of enc g b)) is same) e ∙ ap (is_known enc g) (sym is)
 
 head_at : (enc : Encodings) (g : Given) (instruction : Bool) (name : List ℕ) (o : Option ℕ) (count : ℕ) → o ≡ constructor_named enc name
     → is_head enc g instruction o count ≡ is_head enc g instruction (constructor_named enc name) count
 head_at enc g instruction name o count h = ap (λ o. is_head enc g instruction o count) h
 
-pub operand_known : (enc : Encodings) (g : Given) (b : SslBody) (name : List ℕ) (ops : List (List ℕ)) (e : SslExpr) (o : Option ℕ) (own : List (List ℕ × Own)) → b ≡ body.Operand name ops e
-    → o ≡ constructor_of enc b → FindSame own (own_of enc g b) → (is_head enc g false o (length ops) && is_known_expr (scope_with g.tables own) e) ≡ is_known enc g b
-operand_known enc g b name ops e o own is h same =
+pub operand_known : (enc : Encodings) (g : Given) (b : SslBody) (name : List ℕ) (ops : List (List ℕ)) (e : SslExpr) (o : Option ℕ) (own : List (List ℕ × Own)) (surplus : List (List ℕ))
+    → b ≡ body.Operand name ops e → o ≡ constructor_of enc b → surplus ≡ surplus_at enc o b → FindSame own (own_of enc g b)
+    → (is_head enc g false o (length ops) && is_known_expr surplus (scope_with g.tables own) e) ≡ is_known enc g b
+operand_known enc g b name ops e o own surplus is h behind same =
     let named_own : List (List ℕ × Own) = own_operands g enc 0 ops (kinds_of enc (named_constructor enc name)) in
     let rest : Bool = list_all (is_known_kind enc g) (take (length ops) (kinds_named enc g name)) in
-    ap (λ o. is_head enc g false o (length ops) && is_known_expr (scope_with g.tables own) e) (h ∙ ap (constructor_of enc) is)
-    ∙ ap (λ k. is_head enc g false (constructor_named enc name) (length ops) && k) (expr_same g.tables own named_own (subst (λ b. FindSame own (own_of enc g b)) is same) e)
-    ∙ ap (λ k. (k && rest) && is_known_expr (scope_of enc g name ops) e) (sym (constructor-at enc g false name)) ∙ ap (is_known enc g) (sym is)
+    ap (λ u. is_head enc g false o (length ops) && is_known_expr u (scope_with g.tables own) e) (behind ∙ ap (surplus_at enc o) is)
+    ∙ ap (λ o. is_head enc g false o (length ops) && is_known_expr (surplus_at enc o (body.Operand name ops e)) (scope_with g.tables own) e) (h ∙ ap (constructor_of enc) is)
+    ∙ ap (λ k. is_head enc g false (constructor_named enc name) (length ops) && k)
+    (expr_same (surplus_of enc g name ops) g.tables own named_own (subst (λ b. FindSame own (own_of enc g b)) is same) e)
+    ∙ ap (λ k. (k && rest) && is_known_expr (surplus_of enc g name ops) (scope_of enc g name ops) e) (sym (constructor-at enc g false name)) ∙ ap (is_known enc g) (sym is)
 
-pub instruction_known : (enc : Encodings) (g : Given) (b : SslBody) (name : List ℕ) (ops : List (List ℕ)) (ts : List SslTransfer) (o : Option ℕ) (own : List (List ℕ × Own))
-    → b ≡ body.Instruction name ops ts → o ≡ constructor_of enc b → FindSame own (own_of enc g b)
-    → (is_head enc g true o (length ops) && list_all (is_known_transfer (scope_with g.tables own) (is_some g.windows)) ts) ≡ is_known enc g b
-instruction_known enc g b name ops ts o own is h same =
+pub instruction_known : (enc : Encodings) (g : Given) (b : SslBody) (name : List ℕ) (ops : List (List ℕ)) (ts : List SslTransfer) (o : Option ℕ) (own : List (List ℕ × Own)) (surplus : List (List ℕ))
+    → b ≡ body.Instruction name ops ts → o ≡ constructor_of enc b → surplus ≡ surplus_at enc o b → FindSame own (own_of enc g b)
+    → (is_head enc g true o (length ops) && list_all (is_known_transfer surplus (scope_with g.tables own) (is_some g.windows)) ts) ≡ is_known enc g b
+instruction_known enc g b name ops ts o own surplus is h behind same =
     let named_own : List (List ℕ × Own) = own_operands g enc 0 ops (kinds_of enc (named_constructor enc name)) in
     let rest : Bool = list_all (is_known_kind enc g) (take (length ops) (kinds_named enc g name)) in
     let w : Bool = is_some g.windows in
-    ap (λ o. is_head enc g true o (length ops) && list_all (is_known_transfer (scope_with g.tables own) w) ts) (h ∙ ap (constructor_of enc) is)
-    ∙ ap (λ k. is_head enc g true (constructor_named enc name) (length ops) && k) (transfers_same g.tables own named_own (subst (λ b. FindSame own (own_of enc g b)) is same) w ts)
-    ∙ ap (λ k. (k && rest) && list_all (is_known_transfer (scope_of enc g name ops) w) ts) (sym (constructor-at enc g true name)) ∙ ap (is_known enc g) (sym is)
+    ap (λ u. is_head enc g true o (length ops) && list_all (is_known_transfer u (scope_with g.tables own) w) ts) (behind ∙ ap (surplus_at enc o) is)
+    ∙ ap (λ o. is_head enc g true o (length ops) && list_all (is_known_transfer (surplus_at enc o (body.Instruction name ops ts)) (scope_with g.tables own) w) ts) (h ∙ ap (constructor_of enc) is)
+    ∙ ap (λ k. is_head enc g true (constructor_named enc name) (length ops) && k)
+    (transfers_same (surplus_of enc g name ops) g.tables own named_own (subst (λ b. FindSame own (own_of enc g b)) is same) w ts)
+    ∙ ap (λ k. (k && rest) && list_all (is_known_transfer (surplus_of enc g name ops) (scope_of enc g name ops) w) ts) (sym (constructor-at enc g true name)) ∙ ap (is_known enc g) (sym is)
 
 -- ---- what may stand once
 

@@ -13,9 +13,9 @@ use Rattle.rtl_core.specs.declared.encodings.OperandKind.TheVariants as kind
 use Rattle.rtl_core.specs.declared.encodings.Encodings.{Encodings}
 use Rattle.ssl_rules.specs.declared.tables.Own.{Own}
 use Rattle.ssl_rules.specs.declared.tables.Own.TheVariants.{Field, Typed, Param}
-use Rattle.ssl_rules.specs.Lookup.{named}
+use Rattle.ssl_rules.specs.Lookup.{named, is_among}
 use Rattle.ssl_rules.specs.Given.{Given, kinds_of, named_constructor, has_template, own_operand, own_operands, own_params, stands_for}
-use Rattle.ssl_rules.specs.Checks.{are_new, is_new, is_among, is_once}
+use Rattle.ssl_rules.specs.Checks.{are_new, is_new, is_once}
 use Rattle.ssl_core.specs.Kept.{with_new, kept}
 use Rattle.ssl_core.specs.OwnNames.{own_of}
 use Rattle.ssl_core.proofs.Basics.{and_true, not_true, or_false}
@@ -99,8 +99,8 @@ record IsNewFirst (enc : Encodings) (g : Given) (before : List (List ℕ)) (name
 new_first : (enc : Encodings) (g : Given) (before : List (List ℕ)) (name : List ℕ) (names : List (List ℕ)) → are_new enc g before (name ∷ names) ≡ true
     → IsNewFirst enc g before name names
 new_first enc g before name names h =
-    let both = and_true (is_new enc g name && not (is_among enc g name before)) (are_new enc g (name ∷ before) names) h in
-    let first = and_true (is_new enc g name) (not (is_among enc g name before)) both.0 in
+    let both = and_true (is_new enc g name && not (is_among name before)) (are_new enc g (name ∷ before) names) h in
+    let first = and_true (is_new enc g name) (not (is_among name before)) both.0 in
     record { unseen = not_true (list_any (pointwise nat_eq name) before) first.1; others = both.1 }
 
 operands_kept : (enc : Encodings) (g : Given) (k : ℕ) (ops : List (List ℕ)) (kinds : List OperandKind) (before : List (List ℕ)) (t : List (List ℕ × Own))

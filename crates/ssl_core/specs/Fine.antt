@@ -6,7 +6,6 @@ use Rattle.ssl_syntax.specs.declared.line.SslExpr.{SslExpr}
 use Rattle.ssl_syntax.specs.declared.line.SslTransfer.{SslTransfer}
 use Rattle.ssl_rules.specs.declared.tables.Own.{Own}
 use Rattle.ssl_rules.specs.declared.tables.Tables.{Tables}
-use Rattle.ssl_rules.specs.Known.{is_known_expr, is_known_transfer}
 use Rattle.ssl_rules.specs.Counted.{is_counted_expr, is_counted_transfer}
 use Rattle.ssl_rules.specs.Widths.{is_width, measured, is_transfer_in_range}
 use Rattle.ssl_rules.specs.Formulas.{expanded, nodes}
@@ -17,28 +16,12 @@ use Rattle.ssl_core.specs.Shown.{made_for, made_list}
 use Rattle.ssl_core.specs.Fresh.{is_fresh}
 use Rattle.ssl_core.specs.Limits.{has_place_in}
 use Rattle.ssl_core.specs.MoreTemplates.{scope_with}
-use Rattle.ssl_syntax.specs.declared.line.SslBody.{SslBody}
 use Rattle.rtl_core.specs.declared.encodings.Encodings.{Encodings}
-use Rattle.ssl_rules.specs.Given.{Given}
-use Rattle.ssl_rules.specs.Checks.{is_known, is_once, is_few, is_counted, is_in_range, assigns_places, differing, is_single, is_small}
-
--- each check of a line holds
-pub record IsFine (enc : Encodings) (g : Given) (b : SslBody) : Type 0 where
-  pub known : is_known enc g b ≡ true
-  pub once : is_once enc g b ≡ true
-  pub few : is_few enc g b ≡ true
-  pub counted : is_counted enc g b ≡ true
-  pub ranged : is_in_range enc g b ≡ true
-  pub places : assigns_places enc g b ≡ true
-  pub same : differing enc g b ≡ None
-  pub single : is_single enc g b ≡ true
-  pub small : is_small enc g b ≡ true
 
 -- what the checks of a function say
 pub record IsFineFunction (t : Tables) (own : List (List ℕ × Own)) (name : List ℕ) (ps : List Param) (e : SslExpr) : Type 0 where
   pub fresh : is_fresh t.names name ≡ true
   pub place : has_place_in t ≡ true
-  pub known : is_known_expr (scope_with t own) e ≡ true
   pub counted : is_counted_expr (scope_with t own) e ≡ true
   pub ranged : is_some (measured (scope_with t own) e).width ≡ true
   pub widths : list_all (λ p. is_width p.width) ps ≡ true
@@ -47,7 +30,6 @@ pub record IsFineFunction (t : Tables) (own : List (List ℕ × Own)) (name : Li
 pub record IsFineOperand (enc : Encodings) (g : State) (c : ℕ) (own : List (List ℕ × Own)) (e : SslExpr) : Type 0 where
   pub there : c < length enc.constructors
   pub first : made_for (made_list g.templates) c ≡ None
-  pub known : is_known_expr (scope_with g.tables own) e ≡ true
   pub counted : is_counted_expr (scope_with g.tables own) e ≡ true
   pub ranged : is_some (measured (scope_with g.tables own) e).width ≡ true
   pub small : nat_le (nodes (expanded (scope_with g.tables own) e)) 256 ≡ true
@@ -56,7 +38,6 @@ pub record IsFineOperand (enc : Encodings) (g : State) (c : ℕ) (own : List (Li
 pub record IsFineInstruction (enc : Encodings) (g : State) (c : ℕ) (own : List (List ℕ × Own)) (ts : List SslTransfer) : Type 0 where
   pub there : c < length enc.constructors
   pub first : made_for (made_list g.templates) c ≡ None
-  pub known : list_all (is_known_transfer (scope_with g.tables own) true) ts ≡ true
   pub counted : list_all (is_counted_transfer (scope_with g.tables own)) ts ≡ true
   pub ranged : list_all (is_transfer_in_range (scope_with g.tables own)) ts ≡ true
   pub places : list_all (λ t. act_assigns_place (scope_with g.tables own) t.act) ts ≡ true

@@ -9,7 +9,6 @@ pub mod Heads
 pub mod Fresh
 pub mod Limits
 pub mod TypeWidths
-pub mod LineFaults
 pub mod Functions
 pub mod TypeTables
 pub mod Forms

@@ -3,7 +3,6 @@ ghost use Rattle.std.specs.Prelude.{◌≡◌, ◌<◌, ℕ, None, true, nat_le,
 ghost use Rattle.std.specs.List.{list_all};
 ghost use Rattle.rtl_core.specs.SoundEncodings.{IsSoundEncodings};
 ghost use Rattle.ssl_rules.specs.LineScope.{scope};
-ghost use Rattle.ssl_rules.specs.Known.{is_known_expr, is_known_transfer};
 ghost use Rattle.ssl_rules.specs.Counted.{is_counted_expr, is_counted_transfer};
 ghost use Rattle.ssl_rules.specs.Widths.{measured, is_transfer_in_range};
 ghost use Rattle.ssl_rules.specs.Places.{act_assigns_place};
@@ -32,7 +31,6 @@ use std::alloc::{AllocError, Global};
 /// The template of a typed constructor.
 #[tactic(auto, using(crate::proofs::FewLemmas::few_is))]
 pub fn operand_built(alloc: Global, names: &LineNames, e: &SslExpr) -> Result<Built, AllocError>
-    requires known { is_known_expr (scope names.now) e.now ≡ true }
     requires counted { is_counted_expr (scope names.now) e.now ≡ true }
     requires ranged { is_some (measured (scope names.now) e.now).width ≡ true }
     requires small { nat_le (nodes (expanded (scope names.now) e.now)) 256 ≡ true }
@@ -55,7 +53,6 @@ pub fn instruction_built(
     names: &LineNames,
     transfers: &[SslTransfer],
 ) -> Result<Built, AllocError>
-    requires known { list_all (is_known_transfer (scope names.now) true) transfers.now ≡ true }
     requires counted { list_all (is_counted_transfer (scope names.now)) transfers.now ≡ true }
     requires ranged { list_all (is_transfer_in_range (scope names.now)) transfers.now ≡ true }
     requires places { list_all (λ t. act_assigns_place (scope names.now) t.act) transfers.now ≡ true }

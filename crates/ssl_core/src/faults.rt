@@ -1,10 +1,9 @@
 //! The fault of a line.
 ghost use Rattle.std.specs.Prelude.{◌≡◌, [], IfOk};
-ghost use Rattle.ssl_rules.specs.Faults.{body_fault};
+ghost use Rattle.ssl_rules.specs.Faults.{body_fault, first_of, late_faults};
 ghost use Rattle.ssl_core.specs.State.{shown, Holds};
 ghost use Rattle.ssl_core.specs.Kept.{kept};
 ghost use Rattle.ssl_core.specs.OwnNames.{constructor_of, own_of};
-ghost use Rattle.ssl_core.specs.LineFaults.{late_fault};
 
 use crate::given::Given;
 use crate::known::is_known;
@@ -31,7 +30,7 @@ fn late_fault(
     requires holds { Holds enc.now given.now }
     requires constructor { constructor ≡ constructor_of enc.now body.now }
     requires own { own.now ≡ own_of enc.now (shown given.now) body.now }
-    ensures { IfOk result (λ fault. fault ≡ late_fault enc.now (shown given.now) line body.now) }
+    ensures { IfOk result (λ fault. fault ≡ first_of (late_faults enc.now (shown given.now) line body.now)) }
 {
     if !is_few(given, body) {
         return Ok(Some(SslFault::TooMany { line }));

@@ -2,7 +2,6 @@
 ghost use Rattle.std.specs.Prelude.{◌≡◌, true, is_some, IfOk, OnOk, map};
 ghost use Rattle.std.specs.List.{list_all};
 ghost use Rattle.ssl_rules.specs.LineScope.{scope};
-ghost use Rattle.ssl_rules.specs.Known.{is_known_expr};
 ghost use Rattle.ssl_rules.specs.Counted.{is_counted_expr};
 ghost use Rattle.ssl_rules.specs.Widths.{is_width, measured};
 ghost use Rattle.ssl_rules.specs.Views.{are_parts_in_range, part_bits};
@@ -138,7 +137,6 @@ pub fn function_of(
     params: &[Param],
     e: &SslExpr,
 ) -> Result<Function, AllocError>
-    requires known { is_known_expr (scope names.now) e.now ≡ true }
     requires counted { is_counted_expr (scope names.now) e.now ≡ true }
     requires ranged { is_some (measured (scope names.now) e.now).width ≡ true }
     requires widths { list_all (λ p. is_width p.width) params.now ≡ true }

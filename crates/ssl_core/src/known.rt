@@ -1,18 +1,19 @@
 //! Whether the names of a line are known.
-ghost use Rattle.std.specs.Prelude.{◌≡◌, take};
+ghost use Rattle.std.specs.Prelude.{◌≡◌, drop, take};
 ghost use Rattle.std.specs.List.{list_all};
 ghost use Rattle.ssl_rules.specs.Known.{is_known_part};
 ghost use Rattle.ssl_rules.specs.Checks.{is_known, is_known_kind};
 ghost use Rattle.ssl_core.specs.State.{shown, Holds};
 ghost use Rattle.ssl_core.specs.OwnNames.{FindSame, constructor_of, own_of};
-ghost use Rattle.ssl_core.specs.Heads.{is_constructor_at, is_head};
+ghost use Rattle.ssl_core.specs.Heads.{is_constructor_at, is_head, surplus_at};
 
 use crate::constructors::kinds_of;
 use crate::given::Given;
 use crate::noting::known_stands;
 use crate::stands::type_of;
 use rtl_core::{Encodings, OperandKind};
-use ssl_checks::{are_known_transfers, is_known_expr, is_known_part};
+use sqlite_items::Items;
+use ssl_checks::{KnownNames, are_known_transfers, is_known_expr, is_known_part};
 use ssl_rules::{LineNames, NameTable, Own, Tables};
 use ssl_syntax::{SslBody, ViewPart};
 
@@ -84,6 +85,26 @@ fn is_head(
         )
 }
 
+/// What is behind the first of so many, where there are more.
+fn behind(ops: &[Items<u8>], count: usize) -> &[Items<u8>]
+    ensures { result.now ≡ drop count ops.now }
+{
+    let (_, rest) = ops.split_at(count.min(ops.len()));
+    rest
+}
+
+/// The operands that a template's line lists behind the last that its constructor has.
+fn surplus_of<'a>(enc: &Encodings, constructor: Option<u16>, body: &'a SslBody) -> &'a [Items<u8>]
+    ensures { result.now ≡ surplus_at enc.now constructor body.now }
+{
+    let count = kinds_of(enc, constructor.unwrap_or(0)).len();
+    match body {
+        SslBody::Operand { ops, .. } => behind(ops.as_slice(), count),
+        SslBody::Instruction { ops, .. } => behind(ops.as_slice(), count),
+        _ => &[],
+    }
+}
+
 /// Whether the cells of all parts are known.
 fn are_known_parts(tables: &Tables, parts: &[ViewPart]) -> bool
     ensures { result ≡ list_all (is_known_part tables.now) parts.now }
@@ -110,7 +131,9 @@ pub fn is_known(
     ensures { result ≡ is_known enc.now (shown given.now) body.now }
 {
     let tables = &given.tables;
-    let names = LineNames { tables, own };
+    let line = LineNames { tables, own };
+    let surplus = surplus_of(enc, constructor, body);
+    let names = KnownNames { line, surplus };
     match body {
         SslBody::View { parts, .. } => are_known_parts(tables, parts.as_slice()),
         SslBody::Zero { cell } => tables.is_cell(cell),

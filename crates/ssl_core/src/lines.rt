@@ -4,11 +4,11 @@ ghost use Rattle.rtl_core.specs.SoundEncodings.{IsSoundEncodings};
 ghost use Rattle.ssl_rules.specs.Given.{instruction_made, operand_made, with_body};
 ghost use Rattle.ssl_rules.specs.Widths.{is_delay};
 ghost use Rattle.ssl_rules.specs.TableGrowth.{with_function};
-ghost use Rattle.ssl_rules.specs.Faults.{body_fault};
+ghost use Rattle.ssl_rules.specs.Faults.{body_fault, IsFine};
 ghost use Rattle.ssl_core.specs.State.{shown, Holds};
 ghost use Rattle.ssl_core.specs.Numbers.{AreNumbered};
 ghost use Rattle.ssl_core.specs.OwnNames.{constructor_of, own_of};
-ghost use Rattle.ssl_core.specs.Fine.{IsFine, IsFineFunction, IsFineOperand, IsFineInstruction};
+ghost use Rattle.ssl_core.specs.Fine.{IsFineFunction, IsFineOperand, IsFineInstruction};
 ghost use Rattle.ssl_core.specs.Functions.{function_in};
 ghost use Rattle.ssl_core.specs.MoreTemplates.{scope_with, with_made};
 

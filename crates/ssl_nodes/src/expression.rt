@@ -1,7 +1,7 @@
 //! The nodes of an expression of a line.
 ghost use Rattle.std.specs.Prelude.{◌≡◌, ◌≤◌, IfOk, map, unwrap_or, option_map};
 ghost use Rattle.ssl_rules.specs.LineScope.{scope};
-ghost use Rattle.ssl_rules.specs.Formulas.{expanded, nodes, lone_formula, part_formula, nothing, is_whole};
+ghost use Rattle.ssl_rules.specs.Formulas.{expanded, nodes, lone_formula, part_formula, nothing};
 ghost use Rattle.ssl_nodes.specs.Sums.{few, nodes_with};
 
 use crate::body::{body_count, few};
@@ -90,14 +90,7 @@ fn part_count(tables: &Tables, part: Option<CellPart>) -> u32
     ensures most { result ≤ 257 }
 {
     match part {
-        Some(part) => { if is_whole(tables, part) { 1 } else { 2 } }
+        Some(part) => { if tables.is_whole(part) { 1 } else { 2 } }
         None => 1,
     }
-}
-
-/// Whether a part is its whole cell.
-fn is_whole(tables: &Tables, part: CellPart) -> bool
-    ensures { result ≡ is_whole tables.now part }
-{
-    part.lo == 0 && u16::from(part.hi) + 1 == u16::from(tables.cell_width(usize::from(part.cell)))
 }

@@ -4,7 +4,5 @@
 mod body;
 mod expression;
 
+pub use body::few;
 pub use expression::node_count;
-
-#[cfg(test)]
-mod tests;

@@ -1,8 +1,7 @@
 -- The checks of one line, where earlier lines gave this much: each a test of the line, or the widths that differ.
-use Rattle.std.specs.Prelude.{ℕ, ◌+◌, ◌==◌, nat_lt, nat_le, ◌&&◌, Bool, true, false, not, if◌then◌else◌, List, [], ◌∷◌, length, map, take, is_some, is_none, Option, Some, None, nat_eq}
+use Rattle.std.specs.Prelude.{ℕ, ◌+◌, ◌==◌, nat_lt, nat_le, ◌&&◌, Bool, true, false, not, if◌then◌else◌, List, [], ◌∷◌, length, map, take, drop, is_some, is_none, Option, Some, None}
 use Rattle.std.specs.Option.{option_or}
-use Rattle.std.specs.List.{list_all, list_any}
-use Rattle.std.specs.Cmp.Lexicographic.{pointwise}
+use Rattle.std.specs.List.{list_all}
 use Rattle.ssl_syntax.specs.declared.line.SslExpr.{SslExpr}
 use Rattle.ssl_syntax.specs.declared.line.SslBody.{SslBody}
 use Rattle.ssl_syntax.specs.declared.line.SslBody.TheVariants as body
@@ -11,7 +10,7 @@ use Rattle.rtl_core.specs.declared.encodings.OperandKind.{OperandKind}
 use Rattle.rtl_core.specs.declared.encodings.OperandKind.TheVariants as kind
 use Rattle.rtl_core.specs.declared.encodings.Encodings.{Encodings}
 use Rattle.ssl_rules.specs.declared.widths.Mismatch.{Mismatch}
-use Rattle.ssl_rules.specs.Lookup.{named}
+use Rattle.ssl_rules.specs.Lookup.{named, is_among}
 use Rattle.ssl_rules.specs.Names.{Scope, is_cell, cell_number}
 use Rattle.ssl_rules.specs.Known.{is_known_expr, is_known_part, is_known_transfer}
 use Rattle.ssl_rules.specs.Counted.{is_counted_expr, is_counted_transfer}
@@ -32,7 +31,11 @@ module _ (enc : Encodings) (g : Given) where
   abbrev pub kinds_named : List ℕ → List OperandKind
   kinds_named name = kinds_of enc (named_constructor enc name)
 
-  -- ---- names: each is given by an earlier line, of the kind that its place asks
+  -- the operands that are listed behind the last that the constructor has
+  abbrev pub surplus_of : List ℕ → List (List ℕ) → List (List ℕ)
+  surplus_of name ops = drop (length (kinds_named name)) ops
+
+  -- ---- names: each is given, of the kind that its place asks
 
   -- every constructor of an operand's type has a template
   abbrev pub is_known_kind : OperandKind → Bool
@@ -55,9 +58,9 @@ module _ (enc : Encodings) (g : Given) where
   is_known (body.View name count width parts) = list_all (is_known_part g.tables) parts
   is_known (body.Zero cell) = is_cell g.tables cell
   is_known (body.Windows o l i count) = is_cell g.tables o && (is_cell g.tables l && is_cell g.tables i)
-  is_known (body.Function name ps e) = is_known_expr (function_scope g ps) e
-  is_known (body.Operand name ops e) = is_known_head false name ops && is_known_expr (scope_of name ops) e
-  is_known (body.Instruction name ops ts) = is_known_head true name ops && list_all (is_known_transfer (scope_of name ops) (is_some g.windows)) ts
+  is_known (body.Function name ps e) = is_known_expr [] (function_scope g ps) e
+  is_known (body.Operand name ops e) = is_known_head false name ops && is_known_expr (surplus_of name ops) (scope_of name ops) e
+  is_known (body.Instruction name ops ts) = is_known_head true name ops && list_all (is_known_transfer (surplus_of name ops) (scope_of name ops) (is_some g.windows)) ts
   is_known _ = true
 
   -- ---- what may stand once
@@ -65,9 +68,6 @@ module _ (enc : Encodings) (g : Given) where
   -- a name that no earlier line gives and that is not reserved
   abbrev pub is_new : List ℕ → Bool
   is_new name = is_none (named g.tables.names name) && is_free name
-
-  abbrev pub is_among : List ℕ → List (List ℕ) → Bool
-  is_among name names = list_any (pointwise nat_eq name) names
 
   -- new names, each other than those before it
   abbrev pub are_new : List (List ℕ) → List (List ℕ) → Bool

@@ -29,7 +29,7 @@ node_counted s (SslExpr-F.Call name args) = takes (function_named s.tables name)
 node_counted s _ = true
 
 -- every call of an expression has the right number of arguments
-unfoldable pub is_counted_expr : Scope → SslExpr → Bool
+abbrev pub is_counted_expr : Scope → SslExpr → Bool
 is_counted_expr s = fold-SslExpr Bool (node_counted s)
 
 abbrev pub is_counted_place : Scope → SslPlace → Bool

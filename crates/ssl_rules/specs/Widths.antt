@@ -146,7 +146,7 @@ node_differs s _ = None
 abbrev pub node_measured : Scope → SslExpr-F Measure → Measure
 node_measured s node = record { width = node_width s (map-SslExpr Measure (Option ℕ) (λ m. m.width) node); differs = node_differs s node }
 
-unfoldable pub measured : Scope → SslExpr → Measure
+abbrev pub measured : Scope → SslExpr → Measure
 measured s = fold-SslExpr Measure (node_measured s)
 
 -- an expression whose place asks for a width

@@ -21,6 +21,3 @@ pub use name_table::NameTable;
 pub use operators::operator;
 pub use tables::{Function, Lone, Meaning, Own, Stands, Tables};
 pub use widths::{Measure, Mismatch};
-
-#[cfg(test)]
-mod tests;

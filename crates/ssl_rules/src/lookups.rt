@@ -2,6 +2,7 @@
 ghost use Rattle.std.specs.Prelude.{◌≡◌, ◌≤◌};
 ghost use Rattle.std.specs.Option.{option_copied};
 ghost use Rattle.ssl_rules.specs.Widths.{cell_width};
+ghost use Rattle.ssl_rules.specs.Formulas.{is_whole};
 ghost use Rattle.ssl_rules.specs.Names.{cell_of_meaning, file_of_meaning, function_of_meaning, field_of, file_named, parts_named, part_named, function_named, is_cell, cell_of_file, cell_number};
 
 use crate::tables::{Function, Meaning, Own, Tables};
@@ -84,6 +85,13 @@ impl Tables {
         ensures { result ≡ part_named self.now name.now index }
     {
         self.parts(name)?.get(index as usize).copied()
+    }
+
+    /// Whether a part is its whole cell.
+    pub fn is_whole(&self, part: CellPart) -> bool
+        ensures { result ≡ is_whole self.now part }
+    {
+        part.lo == 0 && u16::from(part.hi) + 1 == u16::from(self.cell_width(usize::from(part.cell)))
     }
 
     /// The function of a name.

@@ -14,6 +14,7 @@ use Rattle.ssl_syntax.specs.Words.{is_load, is_free}
 use Rattle.ssl_syntax.specs.Operators.{is_binary}
 use Rattle.ssl_syntax.specs.Expressions.{is_formed}
 use Rattle.ssl_syntax.proofs.ExprLaws.{formed-Load, formed-Not, formed-Neg, formed-Bin, formed-Bits, formed-Zext, formed-Sext, formed-If, formed-Call}
+use Rattle.ssl_syntax.proofs.FoldLaws.{fold-Number, fold-Named, fold-At, fold-AtOp, fold-Load, fold-Not, fold-Neg, fold-Bin, fold-Bits, fold-Zext, fold-Sext, fold-If, fold-Call, fold-Pc, fold-Next}
 use Rattle.ssl_syntax.proofs.InductExpr.{induct-SslExpr}
 use Rattle.rtl_core.specs.declared.encodings.OperandKind.{OperandKind}
 use Rattle.rtl_core.specs.declared.expr.Un.TheVariants as un
@@ -25,12 +26,10 @@ use Rattle.ssl_rules.specs.declared.tables.Function.{Function}
 use Rattle.ssl_rules.specs.declared.widths.Measure.{Measure}
 use Rattle.ssl_rules.specs.Operators.{operator}
 use Rattle.ssl_rules.specs.Names.{Scope, function_named}
-use Rattle.ssl_rules.specs.Counted.{is_counted_expr, takes}
+use Rattle.ssl_rules.specs.Counted.{is_counted_expr, node_counted, takes}
 use Rattle.ssl_rules.specs.Widths.{is_width, measured, node_measured, asked, args_differ, call_differs, called_width}
-use Rattle.ssl_rules.specs.Formulas.{expanded, put_in, call_formula}
-use Rattle.ssl_checks.proofs.MeasureLaws.{measure-Number, measure-Named, measure-At, measure-AtOp, measure-Load, measure-Not, measure-Neg, measure-Bin, measure-Bits, measure-Zext, measure-Sext, measure-If, measure-Call, measure-Pc, measure-Next}
-use Rattle.ssl_checks.proofs.CountedLaws.{counted-Load, counted-Not, counted-Neg, counted-Bin, counted-Bits, counted-Zext, counted-Sext, counted-If, counted-Call}
-use Rattle.ssl_sound.proofs.ExpandLaws.{expand-Number, expand-Named, expand-At, expand-AtOp, expand-Load, expand-Not, expand-Neg, expand-Bin, expand-Bits, expand-Zext, expand-Sext, expand-If, expand-Call, expand-Pc, expand-Next}
+use Rattle.ssl_rules.specs.Formulas.{expanded, node_expanded, put_in, call_formula}
+use Rattle.ssl_checks.proofs.CallLaws.{counted_call, measured_call}
 use Rattle.ssl_sound.proofs.Good.{Frame, IsGood, AreGood}
 use Rattle.ssl_sound.proofs.GoodForms.{as_good, good-Const, good-Pc, good-Next, good-Load, good-Un, good-Bin, good-Slice, good-Zext, good-Sext, good-If}
 use Rattle.ssl_sound.proofs.Measures.{IsFine, none_parts, asked-some, load-parts, bin-parts, slice-parts, extended-parts, choice-parts}
@@ -93,93 +92,94 @@ module _ (E : Frame) (kinds : List OperandKind) (close : Formula → Formula) (s
   -- ---- all expressions
 
   pub expr-good : (e : SslExpr) → IsGoodExpr e
+  unfolding expanded
   expr-good = induct-SslExpr IsGoodExpr (record {
     on_number = λ v w formed counted u fine.
-        let f = at-node (X.Number v w) (node_measured s (SslExpr-F.Number v w)) u (measure-Number s v w) fine in
+        let f = at-node (X.Number v w) (node_measured s (SslExpr-F.Number v w)) u (fold-Number (node_measured s) v w) fine in
         let c = cond_some (is_width w && nat_lt v (2 ^ w)) w u f.width in
         let t = and_parts (is_width w) (nat_lt v (2 ^ w)) c.0 in
         let b = and_parts (nat_le 1 w) (nat_le w 64) t.0 in
         as_good E kinds (F.Leaf (leaf.Const w v)) (close (expanded s (X.Number v w))) w u
-        (good-Const E kinds w v (leb-true 1 w b.0, leb-true w 64 b.1) (ltb-true v (2 ^ w) t.1)) c.1 (ap close (expand-Number s v w) ∙ g.closes.on_leaf (leaf.Const w v));
+        (good-Const E kinds w v (leb-true 1 w b.0, leb-true w 64 b.1) (ltb-true v (2 ^ w) t.1)) c.1 (ap close (fold-Number (node_expanded s) v w) ∙ g.closes.on_leaf (leaf.Const w v));
     on_named = λ x formed counted u fine.
-        let f = at-node (X.Named x) (node_measured s (SslExpr-F.Named x)) u (measure-Named s x) fine in
-        subst (λ y. IsGood E kinds (close y) u) (sym (expand-Named s x)) (lone-good E kinds close s g x u f.width);
+        let f = at-node (X.Named x) (node_measured s (SslExpr-F.Named x)) u (fold-Named (node_measured s) x) fine in
+        subst (λ y. IsGood E kinds (close y) u) (sym (fold-Named (node_expanded s) x)) (lone-good E kinds close s g x u f.width);
     on_at = λ x i formed counted u fine.
-        let f = at-node (X.At x i) (node_measured s (SslExpr-F.At x i)) u (measure-At s x i) fine in
-        subst (λ y. IsGood E kinds (close y) u) (sym (expand-At s x i)) (at-good E kinds close s g x i u f.width);
+        let f = at-node (X.At x i) (node_measured s (SslExpr-F.At x i)) u (fold-At (node_measured s) x i) fine in
+        subst (λ y. IsGood E kinds (close y) u) (sym (fold-At (node_expanded s) x i)) (at-good E kinds close s g x i u f.width);
     on_at_op = λ x op formed counted u fine.
-        let f = at-node (X.AtOp x op) (node_measured s (SslExpr-F.AtOp x op)) u (measure-AtOp s x op) fine in
-        subst (λ y. IsGood E kinds (close y) u) (sym (expand-AtOp s x op)) (at_op-good E kinds close s g x op u f.width);
+        let f = at-node (X.AtOp x op) (node_measured s (SslExpr-F.AtOp x op)) u (fold-AtOp (node_measured s) x op) fine in
+        subst (λ y. IsGood E kinds (close y) u) (sym (fold-AtOp (node_expanded s) x op)) (at_op-good E kinds close s g x op u f.width);
     on_load = λ n a p formed counted u fine.
-        let f = at-node (X.Load n a) (node_measured s (SslExpr-F.Load n (measured s a))) u (measure-Load s n a) fine in
+        let f = at-node (X.Load n a) (node_measured s (SslExpr-F.Load n (measured s a))) u (fold-Load (node_measured s) n a) fine in
         let t = and_parts (is_load n) (is_formed a) (sym (formed-Load n a) ∙ formed) in
         let z = load-sized n t.0 in
         let m = load-parts (measured s a).width (measured s a).differs n u f.width f.same in
         as_good E kinds (F.Load (n / 8) (close (expanded s a))) (close (expanded s (X.Load n a))) (8 * (n / 8)) u
-        (good-Load E kinds (n / 8) (close (expanded s a)) (p t.1 (sym (counted-Load s n a) ∙ counted) 32 (record { width = m.0; same = m.1 })) z.0)
-        (z.1 ∙ m.2) (ap close (expand-Load s n a) ∙ g.closes.on_load (n / 8) (expanded s a));
+        (good-Load E kinds (n / 8) (close (expanded s a)) (p t.1 (sym (fold-Load (node_counted s) n a) ∙ counted) 32 (record { width = m.0; same = m.1 })) z.0)
+        (z.1 ∙ m.2) (ap close (fold-Load (node_expanded s) n a) ∙ g.closes.on_load (n / 8) (expanded s a));
     on_not = λ a p formed counted u fine.
-        let f = at-node (X.Not a) (node_measured s (SslExpr-F.Not (measured s a))) u (measure-Not s a) fine in
+        let f = at-node (X.Not a) (node_measured s (SslExpr-F.Not (measured s a))) u (fold-Not (node_measured s) a) fine in
         as_good E kinds (F.Un un.Not (close (expanded s a))) (close (expanded s (X.Not a))) u u
-        (good-Un E kinds un.Not (close (expanded s a)) u (p (sym (formed-Not a) ∙ formed) (sym (counted-Not s a) ∙ counted) u (record { width = f.width; same = f.same })))
-        refl (ap close (expand-Not s a) ∙ g.closes.on_un un.Not (expanded s a));
+        (good-Un E kinds un.Not (close (expanded s a)) u (p (sym (formed-Not a) ∙ formed) (sym (fold-Not (node_counted s) a) ∙ counted) u (record { width = f.width; same = f.same })))
+        refl (ap close (fold-Not (node_expanded s) a) ∙ g.closes.on_un un.Not (expanded s a));
     on_neg = λ a p formed counted u fine.
-        let f = at-node (X.Neg a) (node_measured s (SslExpr-F.Neg (measured s a))) u (measure-Neg s a) fine in
+        let f = at-node (X.Neg a) (node_measured s (SslExpr-F.Neg (measured s a))) u (fold-Neg (node_measured s) a) fine in
         as_good E kinds (F.Un un.Neg (close (expanded s a))) (close (expanded s (X.Neg a))) u u
-        (good-Un E kinds un.Neg (close (expanded s a)) u (p (sym (formed-Neg a) ∙ formed) (sym (counted-Neg s a) ∙ counted) u (record { width = f.width; same = f.same })))
-        refl (ap close (expand-Neg s a) ∙ g.closes.on_un un.Neg (expanded s a));
+        (good-Un E kinds un.Neg (close (expanded s a)) u (p (sym (formed-Neg a) ∙ formed) (sym (fold-Neg (node_counted s) a) ∙ counted) u (record { width = f.width; same = f.same })))
+        refl (ap close (fold-Neg (node_expanded s) a) ∙ g.closes.on_un un.Neg (expanded s a));
     on_bin = λ op a b p q formed counted u fine.
-        let f = at-node (X.Bin op a b) (node_measured s (SslExpr-F.Bin op (measured s a) (measured s b))) u (measure-Bin s op a b) fine in
+        let f = at-node (X.Bin op a b) (node_measured s (SslExpr-F.Bin op (measured s a) (measured s b))) u (fold-Bin (node_measured s) op a b) fine in
         let t = and_parts (is_binary op) (is_formed a && is_formed b) (sym (formed-Bin op a b) ∙ formed) in
         let fs = and_parts (is_formed a) (is_formed b) t.1 in
-        let cs = and_parts (is_counted_expr s a) (is_counted_expr s b) (sym (counted-Bin s op a b) ∙ counted) in
+        let cs = and_parts (is_counted_expr s a) (is_counted_expr s b) (sym (fold-Bin (node_counted s) op a b) ∙ counted) in
         let m = bin-parts (operator op) (measured s a).width (measured s b).width (measured s a).differs (measured s b).differs u f.width f.same in
         as_good E kinds (F.Bin (operator op) (close (expanded s a)) (close (expanded s b))) (close (expanded s (X.Bin op a b))) _ u
         (good-Bin E kinds (operator op) (close (expanded s a)) (close (expanded s b)) m.side
         (p fs.0 cs.0 m.side (record { width = m.left; same = m.left_same })) (q fs.1 cs.1 m.side (record { width = m.right; same = m.right_same })))
-        m.width (ap close (expand-Bin s op a b) ∙ g.closes.on_bin (operator op) (expanded s a) (expanded s b));
+        m.width (ap close (fold-Bin (node_expanded s) op a b) ∙ g.closes.on_bin (operator op) (expanded s a) (expanded s b));
     on_bits = λ a lo hi p formed counted u fine.
-        let f = at-node (X.Bits a lo hi) (node_measured s (SslExpr-F.Bits (measured s a) lo hi)) u (measure-Bits s a lo hi) fine in
+        let f = at-node (X.Bits a lo hi) (node_measured s (SslExpr-F.Bits (measured s a) lo hi)) u (fold-Bits (node_measured s) a lo hi) fine in
         let m = slice-parts (measured s a).width lo hi u f.width in
         as_good E kinds (F.Slice (close (expanded s a)) lo hi) (close (expanded s (X.Bits a lo hi))) (hi + 1 - lo) u
         (good-Slice E kinds (close (expanded s a)) lo hi m.whole
-        (p (sym (formed-Bits a lo hi) ∙ formed) (sym (counted-Bits s a lo hi) ∙ counted) m.whole (record { width = m.is; same = f.same })) m.ordered m.below)
-        m.width (ap close (expand-Bits s a lo hi) ∙ g.closes.on_slice (expanded s a) lo hi);
+        (p (sym (formed-Bits a lo hi) ∙ formed) (sym (fold-Bits (node_counted s) a lo hi) ∙ counted) m.whole (record { width = m.is; same = f.same })) m.ordered m.below)
+        m.width (ap close (fold-Bits (node_expanded s) a lo hi) ∙ g.closes.on_slice (expanded s a) lo hi);
     on_zext = λ w a p formed counted u fine.
-        let f = at-node (X.Zext w a) (node_measured s (SslExpr-F.Zext w (measured s a))) u (measure-Zext s w a) fine in
+        let f = at-node (X.Zext w a) (node_measured s (SslExpr-F.Zext w (measured s a))) u (fold-Zext (node_measured s) w a) fine in
         let m = extended-parts (measured s a).width w u f.width in
         as_good E kinds (F.Zext w (close (expanded s a))) (close (expanded s (X.Zext w a))) w u
         (good-Zext E kinds w m.narrow (close (expanded s a))
-        (p (sym (formed-Zext w a) ∙ formed) (sym (counted-Zext s w a) ∙ counted) m.narrow (record { width = m.is; same = f.same })) m.wider m.few)
-        m.width (ap close (expand-Zext s w a) ∙ g.closes.on_zext w (expanded s a));
+        (p (sym (formed-Zext w a) ∙ formed) (sym (fold-Zext (node_counted s) w a) ∙ counted) m.narrow (record { width = m.is; same = f.same })) m.wider m.few)
+        m.width (ap close (fold-Zext (node_expanded s) w a) ∙ g.closes.on_zext w (expanded s a));
     on_sext = λ w a p formed counted u fine.
-        let f = at-node (X.Sext w a) (node_measured s (SslExpr-F.Sext w (measured s a))) u (measure-Sext s w a) fine in
+        let f = at-node (X.Sext w a) (node_measured s (SslExpr-F.Sext w (measured s a))) u (fold-Sext (node_measured s) w a) fine in
         let m = extended-parts (measured s a).width w u f.width in
         as_good E kinds (F.Sext w (close (expanded s a))) (close (expanded s (X.Sext w a))) w u
         (good-Sext E kinds w m.narrow (close (expanded s a))
-        (p (sym (formed-Sext w a) ∙ formed) (sym (counted-Sext s w a) ∙ counted) m.narrow (record { width = m.is; same = f.same })) m.wider m.few)
-        m.width (ap close (expand-Sext s w a) ∙ g.closes.on_sext w (expanded s a));
+        (p (sym (formed-Sext w a) ∙ formed) (sym (fold-Sext (node_counted s) w a) ∙ counted) m.narrow (record { width = m.is; same = f.same })) m.wider m.few)
+        m.width (ap close (fold-Sext (node_expanded s) w a) ∙ g.closes.on_sext w (expanded s a));
     on_if = λ c a b p q r formed counted u fine.
-        let f = at-node (X.If c a b) (node_measured s (SslExpr-F.If (measured s c) (measured s a) (measured s b))) u (measure-If s c a b) fine in
+        let f = at-node (X.If c a b) (node_measured s (SslExpr-F.If (measured s c) (measured s a) (measured s b))) u (fold-If (node_measured s) c a b) fine in
         let ft = and_parts (is_formed c) (is_formed a && is_formed b) (sym (formed-If c a b) ∙ formed) in
         let fs = and_parts (is_formed a) (is_formed b) ft.1 in
-        let ct = and_parts (is_counted_expr s c) (is_counted_expr s a && is_counted_expr s b) (sym (counted-If s c a b) ∙ counted) in
+        let ct = and_parts (is_counted_expr s c) (is_counted_expr s a && is_counted_expr s b) (sym (fold-If (node_counted s) c a b) ∙ counted) in
         let cs = and_parts (is_counted_expr s a) (is_counted_expr s b) ct.1 in
         let m = choice-parts (measured s c).width (measured s a).width (measured s b).width (measured s c).differs (measured s a).differs (measured s b).differs u f.width f.same in
         as_good E kinds (F.If (close (expanded s c)) (close (expanded s a)) (close (expanded s b))) (close (expanded s (X.If c a b))) u u
         (good-If E kinds (close (expanded s c)) (close (expanded s a)) (close (expanded s b)) u
         (p ft.0 ct.0 1 (record { width = m.test; same = m.test_same })) (q fs.0 cs.0 u (record { width = m.left; same = m.left_same }))
         (r fs.1 cs.1 u (record { width = m.right; same = m.right_same })))
-        refl (ap close (expand-If s c a b) ∙ g.closes.on_if (expanded s c) (expanded s a) (expanded s b));
+        refl (ap close (fold-If (node_expanded s) c a b) ∙ g.closes.on_if (expanded s c) (expanded s a) (expanded s b));
     on_call = λ x es each formed counted u fine.
-        let f = subst (λ m. IsFine m u) (measure-Call s x es) fine in
+        let f = subst (λ m. IsFine m u) (measured_call s x es) fine in
         let t = and_parts (is_free x) (list_all (λ b. b) (map is_formed es)) (sym (formed-Call x es) ∙ formed) in
-        subst (λ y. IsGood E kinds (close y) u) (sym (expand-Call s x es))
-        (call-good x es (function_named s.tables x) u refl each (sym (list_all-map (λ b. b) is_formed es) ∙ t.1) (sym (counted-Call s x es) ∙ counted) f.width f.same);
+        subst (λ y. IsGood E kinds (close y) u) (sym (fold-Call (node_expanded s) x es))
+        (call-good x es (function_named s.tables x) u refl each (sym (list_all-map (λ b. b) is_formed es) ∙ t.1) (sym (counted_call s x es) ∙ counted) f.width f.same);
     on_pc = λ formed counted u fine.
-        let f = at-node X.Pc (node_measured s SslExpr-F.Pc) u (measure-Pc s) fine in
-        as_good E kinds (F.Leaf leaf.Pc) (close (expanded s X.Pc)) 32 u (good-Pc E kinds) (same_Some 32 u f.width) (ap close (expand-Pc s) ∙ g.closes.on_leaf leaf.Pc);
+        let f = at-node X.Pc (node_measured s SslExpr-F.Pc) u (fold-Pc (node_measured s)) fine in
+        as_good E kinds (F.Leaf leaf.Pc) (close (expanded s X.Pc)) 32 u (good-Pc E kinds) (same_Some 32 u f.width) (ap close (fold-Pc (node_expanded s)) ∙ g.closes.on_leaf leaf.Pc);
     on_next = λ formed counted u fine.
-        let f = at-node X.Next (node_measured s SslExpr-F.Next) u (measure-Next s) fine in
-        as_good E kinds (F.Leaf leaf.Next) (close (expanded s X.Next)) 32 u (good-Next E kinds) (same_Some 32 u f.width) (ap close (expand-Next s) ∙ g.closes.on_leaf leaf.Next);
+        let f = at-node X.Next (node_measured s SslExpr-F.Next) u (fold-Next (node_measured s)) fine in
+        as_good E kinds (F.Leaf leaf.Next) (close (expanded s X.Next)) 32 u (good-Next E kinds) (same_Some 32 u f.width) (ap close (fold-Next (node_expanded s)) ∙ g.closes.on_leaf leaf.Next);
   })

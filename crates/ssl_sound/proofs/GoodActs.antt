@@ -108,9 +108,9 @@ module _ (E : Frame) (kinds : List OperandKind) (s : Scope) (g : IsGoodScope E k
   of-width : (e : SslExpr) (w : ℕ) → IsGood E kinds (expanded s e) w → IsOfWidth E.machine E.stands kinds (expr_value s e) w
   of-width e w good = record { sound = good.sound; width = good.width }
 
-  act-good : (windows : Bool) → (windows ≡ true → is_some E.machine.windows ≡ true) → (a : SslAct) → is_act_value a ≡ true → is_known_act s windows a ≡ true → is_counted_act s a ≡ true
+  act-good : (surplus : List (List ℕ)) (windows : Bool) → (windows ≡ true → is_some E.machine.windows ≡ true) → (a : SslAct) → is_act_value a ≡ true → is_known_act surplus s windows a ≡ true → is_counted_act s a ≡ true
       → is_act_in_range s a ≡ true → act_assigns_place s a ≡ true → act_differs s a ≡ None → IsSoundActOf E kinds (act_of s a) (act_nodes s a)
-  act-good windows there (act.Assign w p e) formed known counted ranged places same =
+  act-good surplus windows there (act.Assign w p e) formed known counted ranged places same =
       let f = and_parts (is_place p) (is_expr e) formed in
       let c = and_parts (is_counted_place s p) (is_counted_expr s e) counted in
       let r = and_parts (is_width w) (is_some (place_measured s p).width && is_some (measured s e).width) ranged in
@@ -123,14 +123,14 @@ module _ (E : Frame) (kinds : List OperandKind) (s : Scope) (g : IsGoodScope E k
         sound = (to.sound, record { sound = good.sound; width = good.width ∙ sym to.width });
         nodes = ap (λ n. n + texpr_nodes E.counts kinds (expr_value s e)) to.nodes ∙ ap (λ n. place_nodes s p + n) good.nodes;
       }
-  act-good windows there (act.Jump e) formed known counted ranged places same =
+  act-good surplus windows there (act.Jump e) formed known counted ranged places same =
       let good = value-good e 32 formed counted ranged same in record { sound = of-width e 32 good; nodes = good.nodes }
-  act-good windows there act.Annul formed known counted ranged places same = record { sound = tt; nodes = refl }
-  act-good windows there (act.Trap e) formed known counted ranged places same =
+  act-good surplus windows there act.Annul formed known counted ranged places same = record { sound = tt; nodes = refl }
+  act-good surplus windows there (act.Trap e) formed known counted ranged places same =
       let good = value-good e 32 formed counted ranged same in record { sound = of-width e 32 good; nodes = good.nodes }
-  act-good windows there act.Service formed known counted ranged places same = record { sound = tt; nodes = refl }
-  act-good windows there act.WinSave formed known counted ranged places same = record { sound = there known; nodes = refl }
-  act-good windows there act.WinRestore formed known counted ranged places same = record { sound = there known; nodes = refl }
+  act-good surplus windows there act.Service formed known counted ranged places same = record { sound = tt; nodes = refl }
+  act-good surplus windows there act.WinSave formed known counted ranged places same = record { sound = there known; nodes = refl }
+  act-good surplus windows there act.WinRestore formed known counted ranged places same = record { sound = there known; nodes = refl }
 
   guard-sound : (o : Option SslExpr) → is_guard o ≡ true → is_counted_guard s o ≡ true → is_guard_in_range s o ≡ true → guard_differs s o ≡ None
       → IsSoundTGuard E.machine E.stands kinds (option_map (expr_value s) o)
@@ -144,9 +144,9 @@ module _ (E : Frame) (kinds : List OperandKind) (s : Scope) (g : IsGoodScope E k
 
   -- ---- transfers
 
-  pub record AreChecked (windows : Bool) (ts : List SslTransfer) : Type 0 where
+  pub record AreChecked (surplus : List (List ℕ)) (windows : Bool) (ts : List SslTransfer) : Type 0 where
     pub formed : list_all is_transfer ts ≡ true
-    pub known : list_all (is_known_transfer s windows) ts ≡ true
+    pub known : list_all (is_known_transfer surplus s windows) ts ≡ true
     pub counted : list_all (is_counted_transfer s) ts ≡ true
     pub ranged : list_all (is_transfer_in_range s) ts ≡ true
     pub places : list_all (λ t. act_assigns_place s t.act) ts ≡ true
@@ -157,13 +157,13 @@ module _ (E : Frame) (kinds : List OperandKind) (s : Scope) (g : IsGoodScope E k
     pub each : All (IsSoundTTransfer E.machine E.stands kinds) (map (transfer_of s) ts)
     pub nodes : sum_by (λ (t : TTransfer). 1 + tguard_nodes E.counts kinds t.guard + tact_nodes E.counts kinds t.act) (map (transfer_of s) ts) ≡ sum_by (transfer_nodes s) ts
 
-  each-sound : (windows : Bool) → (windows ≡ true → is_some E.machine.windows ≡ true) → (ts : List SslTransfer) → AreChecked windows ts → AreSoundOf ts
-  each-sound windows there [] c = record { each = All-nil (IsSoundTTransfer E.machine E.stands kinds); nodes = refl }
-  each-sound windows there (t ∷ ts) c =
+  each-sound : (surplus : List (List ℕ)) (windows : Bool) → (windows ≡ true → is_some E.machine.windows ≡ true) → (ts : List SslTransfer) → AreChecked surplus windows ts → AreSoundOf ts
+  each-sound surplus windows there [] c = record { each = All-nil (IsSoundTTransfer E.machine E.stands kinds); nodes = refl }
+  each-sound surplus windows there (t ∷ ts) c =
       let f = and_parts (is_transfer t) (list_all is_transfer ts) c.formed in
       let fs = and_parts (is_guard t.guard) (is_act_value t.act) f.0 in
-      let k = and_parts (is_known_transfer s windows t) (list_all (is_known_transfer s windows) ts) c.known in
-      let ks = and_parts (is_known_guard s t.guard) (is_known_act s windows t.act) k.0 in
+      let k = and_parts (is_known_transfer surplus s windows t) (list_all (is_known_transfer surplus s windows) ts) c.known in
+      let ks = and_parts (is_known_guard surplus s t.guard) (is_known_act surplus s windows t.act) k.0 in
       let n = and_parts (is_counted_transfer s t) (list_all (is_counted_transfer s) ts) c.counted in
       let ns = and_parts (is_counted_guard s t.guard) (is_counted_act s t.act) n.0 in
       let r = and_parts (is_transfer_in_range s t) (list_all (is_transfer_in_range s) ts) c.ranged in
@@ -171,10 +171,10 @@ module _ (E : Frame) (kinds : List OperandKind) (s : Scope) (g : IsGoodScope E k
       let p = and_parts (act_assigns_place s t.act) (list_all (λ t. act_assigns_place s t.act) ts) c.places in
       let d = none_parts (transfer_differs s t) (first_differing (transfer_differs s) ts) c.same in
       let ds = none_parts (guard_differs s t.guard) (act_differs s t.act) d.0 in
-      let a = act-good windows there t.act fs.1 ks.1 ns.1 rs.1 p.0 ds.1 in
+      let a = act-good surplus windows there t.act fs.1 ks.1 ns.1 rs.1 p.0 ds.1 in
       let gs = guard-sound t.guard fs.0 ns.0 rs.0 ds.0 in
       let gn = guard-nodes t.guard fs.0 ns.0 rs.0 ds.0 in
-      let rest = each-sound windows there ts (record { formed = f.1; known = k.1; counted = n.1; ranged = r.1; places = p.1; same = d.1 }) in
+      let rest = each-sound surplus windows there ts (record { formed = f.1; known = k.1; counted = n.1; ranged = r.1; places = p.1; same = d.1 }) in
       let count : TTransfer → ℕ = λ t. 1 + tguard_nodes E.counts kinds t.guard + tact_nodes E.counts kinds t.act in
       record {
         each = All-cons (IsSoundTTransfer E.machine E.stands kinds) (transfer_of s t) (map (transfer_of s) ts) (record { guard = gs; act = a.sound }) rest.each;
@@ -185,9 +185,9 @@ module _ (E : Frame) (kinds : List OperandKind) (s : Scope) (g : IsGoodScope E k
             ∙ sym (sum_by-cons (transfer_nodes s) t ts);
       }
 
-  pub transfers-sound : (windows : Bool) → (windows ≡ true → is_some E.machine.windows ≡ true) → (ts : List SslTransfer) → AreChecked windows ts → are_single ts ≡ true
+  pub transfers-sound : (surplus : List (List ℕ)) (windows : Bool) → (windows ≡ true → is_some E.machine.windows ≡ true) → (ts : List SslTransfer) → AreChecked surplus windows ts → are_single ts ≡ true
       → AreSoundTTransfers E.machine E.stands kinds (map (transfer_of s) ts)
-  transfers-sound windows there ts c single =
+  transfers-sound surplus windows there ts c single =
       let j : Bool = nat_le (acts_of once.Jump ts) 1 in
       let a : Bool = nat_le (acts_of once.Annul ts) 1 in
       let v : Bool = nat_le (acts_of once.Service ts) 1 in
@@ -197,7 +197,7 @@ module _ (E : Frame) (kinds : List OperandKind) (s : Scope) (g : IsGoodScope E k
       let q = and_parts a (v && m) p.1 in
       let r = and_parts v m q.1 in
       record {
-        each = (each-sound windows there ts c).each;
+        each = (each-sound surplus windows there ts c).each;
         one_jump = subst (λ n. n ≤ 1) (sym (counted-as s is_tjump once.Jump (same-jump s) ts)) (leb-true (acts_of once.Jump ts) 1 p.0);
         one_annul = subst (λ n. n ≤ 1) (sym (counted-as s is_tannul once.Annul (same-annul s) ts)) (leb-true (acts_of once.Annul ts) 1 q.0);
         one_service = subst (λ n. n ≤ 1) (sym (counted-as s is_tservice once.Service (same-service s) ts)) (leb-true (acts_of once.Service ts) 1 r.0);
@@ -205,6 +205,6 @@ module _ (E : Frame) (kinds : List OperandKind) (s : Scope) (g : IsGoodScope E k
         service_last = service-last s ts (eqb-true (acts_of once.Service (take (length ts - 1) ts)) 0 all.1);
       }
 
-  pub transfers-nodes : (windows : Bool) → (windows ≡ true → is_some E.machine.windows ≡ true) → (ts : List SslTransfer) → AreChecked windows ts
+  pub transfers-nodes : (surplus : List (List ℕ)) (windows : Bool) → (windows ≡ true → is_some E.machine.windows ≡ true) → (ts : List SslTransfer) → AreChecked surplus windows ts
       → template_nodes E.counts kinds (transfers_template s ts) ≡ transfers_nodes s ts
-  transfers-nodes windows there ts c = (each-sound windows there ts c).nodes
+  transfers-nodes surplus windows there ts c = (each-sound surplus windows there ts c).nodes

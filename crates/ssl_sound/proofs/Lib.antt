@@ -1,5 +1,4 @@
 pub mod Terms
-pub mod ExpandLaws
 pub mod Good
 pub mod GoodForms
 pub mod Closing
@@ -17,7 +16,6 @@ pub mod GoodTemplates
 pub mod GoodPlaces
 pub mod GoodActs
 pub mod Constructors
-pub mod Passes
 pub mod SoFar
 pub mod MadeLines
 pub mod Machine

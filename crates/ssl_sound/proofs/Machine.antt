@@ -19,13 +19,13 @@ use Rattle.ssl_rules.specs.declared.fault.SslFault.TheVariants.{Missing}
 use Rattle.ssl_rules.specs.Given.{Given, Made, nothing_given, given_by, with_body, template_for, has_template, kinds_of, type_of, most_of}
 use Rattle.ssl_rules.specs.Faults.{body_fault, first_fault, missing_from, fault_of}
 use Rattle.ssl_rules.specs.Machines.{form_of, forms_from, machine_of}
+use Rattle.ssl_rules.proofs.FineLines.{fine_line}
 use Rattle.ssl_sound.proofs.Good.{Frame, IsGoodFunction}
 use Rattle.ssl_sound.proofs.Measures.{none_parts}
 use Rattle.ssl_sound.proofs.Runs.{Extends, extends-body, extends-on, extends-lines}
 use Rattle.ssl_sound.proofs.Frames.{frame_of, some-is, form-at, zero-and}
 use Rattle.ssl_sound.proofs.GoodTemplates.{IsMade}
 use Rattle.ssl_sound.proofs.Constructors.{type_of-is}
-use Rattle.ssl_sound.proofs.Passes.{passes}
 use Rattle.ssl_sound.proofs.SoFar.{IsSoundSoFar, nothing-sound, so_far-body}
 use Rattle.ssl_sound.proofs.MadeLines.{IsMadeRight, IsGivenRight, right-body}
 
@@ -43,7 +43,7 @@ lines-whole enc sound G [] g none formed so_far right e =
 lines-whole enc sound G (line ∷ lines) g none formed so_far right e =
     let h : Given = with_body enc g line.body in
     let o = none_parts (body_fault enc g line.number line.body) (first_fault enc h lines) none in
-    let p = passes enc g line.number line.body o.0 in
+    let p = fine_line enc g line.number line.body o.0 in
     let more : Extends enc h G = subst (Extends enc h) e (extends-lines enc h lines) in
     let grows : Extends enc g G = extends-on enc g h G (extends-body enc g line.body) more in
     lines-whole enc sound G lines h o.1 (All-tail (λ line. is_line line ≡ true) line lines formed) (so_far-body enc g line.body p so_far)

@@ -25,7 +25,9 @@ use Rattle.ssl_rules.specs.Widths.{is_width, measured, asked}
 use Rattle.ssl_rules.specs.Formulas.{expanded, nodes}
 use Rattle.ssl_rules.specs.Templates.{formula_template, assigned_nodes, transfers_template, transfers_nodes}
 use Rattle.ssl_rules.specs.Given.{Given, Made, kinds_of, is_of, type_of, type_width, named_constructor, function_scope, function_of, operand_made, instruction_made, with_body}
-use Rattle.ssl_rules.specs.Checks.{scope_of, kinds_named, is_known_kind, is_constructor, is_known_head, template_differs}
+use Rattle.ssl_rules.specs.Faults.{IsFine}
+use Rattle.ssl_rules.specs.Checks.{scope_of, surplus_of, kinds_named, is_known_kind, is_constructor, is_known_head, template_differs}
+use Rattle.ssl_rules.proofs.FineLines.{map-none}
 use Rattle.ssl_sound.proofs.Good.{Frame, IsGood, IsGoodFunction}
 use Rattle.ssl_sound.proofs.Measures.{none_parts, asked-same}
 use Rattle.ssl_sound.proofs.ExprGood.{expr-good}
@@ -37,7 +39,6 @@ use Rattle.ssl_sound.proofs.GoodTemplates.{IsMade, template-made}
 use Rattle.ssl_sound.proofs.GoodPlaces.{expr-formed}
 use Rattle.ssl_sound.proofs.GoodActs.{AreChecked, transfers-sound, transfers-nodes}
 use Rattle.ssl_sound.proofs.Constructors.{constructor-right, kinds-filled, is_of-its_type}
-use Rattle.ssl_sound.proofs.Passes.{Passes, map-none}
 use Rattle.ssl_sound.proofs.SoFar.{IsSoundSoFar}
 
 -- a constructor's template
@@ -92,7 +93,7 @@ operand-of : (enc : Encodings) (E : Frame) (kinds : List OperandKind) (f : Formu
 operand-of enc E kinds f w zero good other width = absurd (false≢true other)
 operand-of enc E kinds f w (suc t) good other width = template-made E kinds t f (subst (IsGood E kinds f) width good)
 
-operand-line : (enc : Encodings) → IsSoundEncodings enc → (g G : Given) (name : List ℕ) (ops : List (List ℕ)) (e : SslExpr) → Passes enc g (body.Operand name ops e) → is_expr e ≡ true → AreSoundTables g.tables
+operand-line : (enc : Encodings) → IsSoundEncodings enc → (g G : Given) (name : List ℕ) (ops : List (List ℕ)) (e : SslExpr) → IsFine enc g (body.Operand name ops e) → is_expr e ≡ true → AreSoundTables g.tables
     → Extends enc g G → Extends enc (with_body enc g (body.Operand name ops e)) G → IsGivenRight enc (frame_of enc G) g
     → IsMadeRight enc (frame_of enc G) (operand_made (scope_of enc g name ops) (named_constructor enc name) e)
 operand-line enc sound g G name ops e p formed tables grows grows_more right =
@@ -100,7 +101,7 @@ operand-line enc sound g G name ops e p formed tables grows grows_more right =
     let s : Scope = scope_of enc g name ops in
     let E : Frame = frame_of enc G in
     let made : Made = operand_made s c e in
-    let k = and_parts (is_known_head enc g false name ops) (is_known_expr s e) p.known in
+    let k = and_parts (is_known_head enc g false name ops) (is_known_expr (surplus_of enc g name ops) s e) p.known in
     let h = and_parts (is_constructor enc g false name) (list_all (is_known_kind enc g) (take (length ops) (kinds_named enc g name))) k.0 in
     let of = constructor-right enc g false name h.0 in
     let n = and_parts (length ops == length (kinds_named enc g name)) (is_counted_expr s e) p.counted in
@@ -119,23 +120,24 @@ operand-line enc sound g G name ops e p formed tables grows grows_more right =
 
 -- ---- instruction NAME ( OP , OP ) := T ; T
 
-instruction-line : (enc : Encodings) → IsSoundEncodings enc → (g G : Given) (name : List ℕ) (ops : List (List ℕ)) (ts : List SslTransfer) → Passes enc g (body.Instruction name ops ts)
+instruction-line : (enc : Encodings) → IsSoundEncodings enc → (g G : Given) (name : List ℕ) (ops : List (List ℕ)) (ts : List SslTransfer) → IsFine enc g (body.Instruction name ops ts)
     → list_all is_transfer ts ≡ true → AreSoundTables g.tables → Extends enc g G → IsGivenRight enc (frame_of enc G) g
     → IsMadeRight enc (frame_of enc G) (instruction_made (scope_of enc g name ops) (named_constructor enc name) ts)
 instruction-line enc sound g G name ops ts p formed tables grows right =
     let c : ℕ = named_constructor enc name in
     let s : Scope = scope_of enc g name ops in
     let E : Frame = frame_of enc G in
-    let k = and_parts (is_known_head enc g true name ops) (list_all (is_known_transfer s (is_some g.windows)) ts) p.known in
+    let surplus : List (List ℕ) = surplus_of enc g name ops in
+    let k = and_parts (is_known_head enc g true name ops) (list_all (is_known_transfer surplus s (is_some g.windows)) ts) p.known in
     let h = and_parts (is_constructor enc g true name) (list_all (is_known_kind enc g) (take (length ops) (kinds_named enc g name))) k.0 in
     let of = constructor-right enc g true name h.0 in
     let n = and_parts (length ops == length (kinds_named enc g name)) (list_all (is_counted_transfer s) ts) p.counted in
     let scope = template_scope-good enc g G grows tables right.functions c ops h.1 (kinds-filled enc sound c) in
-    let checked : AreChecked E (kinds_of enc c) s scope tables (is_some g.windows) ts =
+    let checked : AreChecked E (kinds_of enc c) s scope tables surplus (is_some g.windows) ts =
     record { formed = formed; known = k.1; counted = n.1; ranged = p.ranged; places = p.places; same = p.same } in
     let made : IsMade E (kinds_of enc c) 0 (transfers_template s ts) (transfers_nodes s ts) 0 = record {
-      sound = transfers-sound E (kinds_of enc c) s scope tables (is_some g.windows) grows.windows ts checked p.single;
-      read = transfers-nodes E (kinds_of enc c) s scope tables (is_some g.windows) grows.windows ts checked;
+      sound = transfers-sound E (kinds_of enc c) s scope tables surplus (is_some g.windows) grows.windows ts checked p.single;
+      read = transfers-nodes E (kinds_of enc c) s scope tables surplus (is_some g.windows) grows.windows ts checked;
       assigned = refl;
     } in
     record {
@@ -146,7 +148,7 @@ instruction-line enc sound g G name ops ts p formed tables grows right =
 
 -- ---- any line
 
-pub right-body : (enc : Encodings) → IsSoundEncodings enc → (g G : Given) (b : SslBody) → Passes enc g b → is_body b ≡ true → IsSoundSoFar g → Extends enc g G → Extends enc (with_body enc g b) G
+pub right-body : (enc : Encodings) → IsSoundEncodings enc → (g G : Given) (b : SslBody) → IsFine enc g b → is_body b ≡ true → IsSoundSoFar g → Extends enc g G → Extends enc (with_body enc g b) G
     → IsGivenRight enc (frame_of enc G) g → IsGivenRight enc (frame_of enc G) (with_body enc g b)
 right-body enc sound g G (body.Align answer) p formed so_far grows more right = record { functions = right.functions; templates = right.templates }
 right-body enc sound g G (body.Delay bytes) p formed so_far grows more right = record { functions = right.functions; templates = right.templates }

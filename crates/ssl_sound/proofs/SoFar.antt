@@ -17,10 +17,10 @@ use Rattle.ssl_rules.specs.Windows.{are_windows}
 use Rattle.ssl_rules.specs.Views.{part_bits, are_parts_in_range}
 use Rattle.ssl_rules.specs.Given.{Given, nothing_given, part_of, function_of, shape_of, with_body}
 use Rattle.ssl_rules.specs.Checks.{has_place, has_room}
+use Rattle.ssl_rules.specs.Faults.{IsFine}
 use Rattle.ssl_sound.proofs.Tables.{AreSoundTables, no_tables-sound, cell-sound, cells-sound, view-sound, function-sound, file-of, cell-there}
 use Rattle.ssl_sound.proofs.WindowCells.{AreFit, fit-more, fit-zero, zero-parts, windows-tested}
 use Rattle.ssl_sound.proofs.ViewParts.{view-parts}
-use Rattle.ssl_sound.proofs.Passes.{Passes}
 
 pub record IsSoundSoFar (g : Given) : Type 0 where
   pub tables : AreSoundTables g.tables
@@ -66,7 +66,7 @@ delay-in : (d : Option ℕ) → is_delay d ≡ true → IsDelay d
 delay-in None e = tt
 delay-in (Some bytes) e = let t = and_parts (nat_le 1 bytes) (nat_le bytes 32) e in (leb-true 1 bytes t.0, leb-true bytes 32 t.1)
 
-zero-line : (enc : Encodings) (g : Given) (cell : CellName) → Passes enc g (body.Zero cell) → IsSoundSoFar g → IsSoundSoFar (with_body enc g (body.Zero cell))
+zero-line : (enc : Encodings) (g : Given) (cell : CellName) → IsFine enc g (body.Zero cell) → IsSoundSoFar g → IsSoundSoFar (with_body enc g (body.Zero cell))
 zero-line enc g cell p s =
     let z = zero-parts (cell_number g.tables cell) g.windows p.ranged in
     record {
@@ -76,7 +76,7 @@ zero-line enc g cell p s =
       windows = λ w e. subst (λ o. AreFit g.tables.widths o w) (sym z.is) (fit-zero g.tables.widths g.zeroed z.cell w (z.apart w e) (s.windows w e));
     }
 
-windows-line : (enc : Encodings) (g : Given) (o l i : CellName) (n : ℕ) → Passes enc g (body.Windows o l i n) → IsSoundSoFar g → IsSoundSoFar (with_body enc g (body.Windows o l i n))
+windows-line : (enc : Encodings) (g : Given) (o l i : CellName) (n : ℕ) → IsFine enc g (body.Windows o l i n) → IsSoundSoFar g → IsSoundSoFar (with_body enc g (body.Windows o l i n))
 windows-line enc g o l i n p s =
     let shape : WinShape = shape_of g.tables o l i n in
     let named : Bool = is_some (cell_number g.tables o) && (is_some (cell_number g.tables l) && is_some (cell_number g.tables i)) in
@@ -94,7 +94,7 @@ place-left enc g e = ltb-true (length g.tables.files + length g.tables.functions
 room-left : (enc : Encodings) (g : Given) (n : ℕ) → has_room enc g n ≡ true → length g.tables.widths + n ≤ 120
 room-left enc g n e = leb-true (length g.tables.widths + n) 120 e
 
-view-line : (enc : Encodings) (g : Given) (name : List ℕ) (n w : ℕ) (parts : List ViewPart) → Passes enc g (body.View name n w parts) → IsSoundSoFar g → IsSoundSoFar (with_body enc g (body.View name n w parts))
+view-line : (enc : Encodings) (g : Given) (name : List ℕ) (n w : ℕ) (parts : List ViewPart) → IsFine enc g (body.View name n w parts) → IsSoundSoFar g → IsSoundSoFar (with_body enc g (body.View name n w parts))
 view-line enc g name n w parts p s =
     let t = and_parts (is_width w) (are_parts_in_range g.tables parts) p.ranged in
     let same : first_differing (λ p. asked w (part_bits g.tables p)) parts ≡ None =
@@ -104,7 +104,7 @@ view-line enc g name n w parts p s =
     (file-of g.tables.widths w (map (part_of g.tables) parts) (view-parts g.tables s.tables w (width-in w t.0) parts t.1 same)) (place-left enc g p.few))
     refl refl refl refl
 
-pub so_far-body : (enc : Encodings) (g : Given) (b : SslBody) → Passes enc g b → IsSoundSoFar g → IsSoundSoFar (with_body enc g b)
+pub so_far-body : (enc : Encodings) (g : Given) (b : SslBody) → IsFine enc g b → IsSoundSoFar g → IsSoundSoFar (with_body enc g b)
 so_far-body enc g (body.Align answer) p s = tables-same g (with_body enc g (body.Align answer)) s s.tables refl refl refl refl
 so_far-body enc g (body.Delay bytes) p s = record { tables = s.tables; delay = delay-in bytes p.ranged; zeroed = s.zeroed; windows = s.windows }
 so_far-body enc g (body.Cell name w) p s =

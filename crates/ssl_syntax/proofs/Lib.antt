@@ -1,3 +1,4 @@
+pub mod FoldLaws
 pub mod Ends
 pub mod ExprLaws
 pub mod InductExpr

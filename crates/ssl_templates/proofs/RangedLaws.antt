@@ -9,8 +9,9 @@ use Rattle.ssl_rules.specs.declared.tables.Function.{Function}
 use Rattle.ssl_rules.specs.Operators.{operator}
 use Rattle.ssl_rules.specs.Names.{Scope, function_named}
 use Rattle.rtl_core.specs.Arithmetic.{result_width}
-use Rattle.ssl_rules.specs.Widths.{measured, constant_width, slice_width, extended_width, is_width, behind, called_width}
-use Rattle.ssl_checks.proofs.MeasureLaws.{measure-Number, measure-Load, measure-Not, measure-Neg, measure-Bin, measure-Bits, measure-Zext, measure-Sext, measure-If, measure-Call}
+use Rattle.ssl_rules.specs.Widths.{measured, node_measured, constant_width, slice_width, extended_width, is_width, behind, called_width}
+use Rattle.ssl_syntax.proofs.FoldLaws.{fold-Number, fold-Load, fold-Not, fold-Neg, fold-Bin, fold-Bits, fold-Zext, fold-Sext, fold-If}
+use Rattle.ssl_checks.proofs.CallLaws.{measured_call}
 use Rattle.ssl_templates.specs.Ranged.{is_ranged}
 
 -- ---- from parts that may be missing
@@ -48,24 +49,24 @@ extended w (Some v) h = (and_parts (nat_le v w) (is_width w) (chosen (nat_le v w
 
 pub ranged-Number : (s : Scope) (v w : ℕ) → is_ranged s (E.Number v w) ≡ true → is_width w ≡ true
 unfolding is_ranged
-ranged-Number s v w h = constant v w (sym (ap (λ m. is_some m.width) (measure-Number s v w)) ∙ h)
+ranged-Number s v w h = constant v w (sym (ap (λ m. is_some m.width) (fold-Number (node_measured s) v w)) ∙ h)
 
 pub ranged-Load : (s : Scope) (n : ℕ) (a : SslExpr) → is_ranged s (E.Load n a) ≡ is_ranged s a
 unfolding is_ranged
-ranged-Load s n a = ap (λ m. is_some m.width) (measure-Load s n a) ∙ mapped (λ _. n) (measured s a).width
+ranged-Load s n a = ap (λ m. is_some m.width) (fold-Load (node_measured s) n a) ∙ mapped (λ _. n) (measured s a).width
 
 pub ranged-Not : (s : Scope) (a : SslExpr) → is_ranged s (E.Not a) ≡ is_ranged s a
 unfolding is_ranged
-ranged-Not s a = ap (λ m. is_some m.width) (measure-Not s a)
+ranged-Not s a = ap (λ m. is_some m.width) (fold-Not (node_measured s) a)
 
 pub ranged-Neg : (s : Scope) (a : SslExpr) → is_ranged s (E.Neg a) ≡ is_ranged s a
 unfolding is_ranged
-ranged-Neg s a = ap (λ m. is_some m.width) (measure-Neg s a)
+ranged-Neg s a = ap (λ m. is_some m.width) (fold-Neg (node_measured s) a)
 
 pub ranged-Bin : (s : Scope) (op : ℕ) (a b : SslExpr) → is_ranged s (E.Bin op a b) ≡ (is_ranged s b && is_ranged s a)
 unfolding is_ranged
 ranged-Bin s op a b =
-    ap (λ m. is_some m.width) (measure-Bin s op a b) ∙ both (measured s b).width (option_map (result_width (operator op)) (measured s a).width)
+    ap (λ m. is_some m.width) (fold-Bin (node_measured s) op a b) ∙ both (measured s b).width (option_map (result_width (operator op)) (measured s a).width)
     ∙ ap (λ t. is_some (measured s b).width && t) (mapped (result_width (operator op)) (measured s a).width)
 
 -- bits have their ends
@@ -74,24 +75,24 @@ has_ends s a lo hi = is_some (option_and_then (slice_width lo hi) (measured s a)
 
 pub ranged-Bits : (s : Scope) (a : SslExpr) (lo hi : ℕ) → is_ranged s (E.Bits a lo hi) ≡ (is_ranged s a && has_ends s a lo hi)
 unfolding is_ranged
-ranged-Bits s a lo hi = ap (λ m. is_some m.width) (measure-Bits s a lo hi) ∙ and_then (slice_width lo hi) (measured s a).width
+ranged-Bits s a lo hi = ap (λ m. is_some m.width) (fold-Bits (node_measured s) a lo hi) ∙ and_then (slice_width lo hi) (measured s a).width
 
 pub ranged-Zext : (s : Scope) (w : ℕ) (a : SslExpr) → is_ranged s (E.Zext w a) ≡ true → (is_ranged s a && is_width w) ≡ true
 unfolding is_ranged
 ranged-Zext s w a h =
-    let some : is_some (option_and_then (extended_width w) (measured s a).width) ≡ true = sym (ap (λ m. is_some m.width) (measure-Zext s w a)) ∙ h in
+    let some : is_some (option_and_then (extended_width w) (measured s a).width) ≡ true = sym (ap (λ m. is_some m.width) (fold-Zext (node_measured s) w a)) ∙ h in
     ap (λ t. t && is_width w) (and_parts (is_some (measured s a).width) (is_some (option_and_then (extended_width w) (measured s a).width)) (sym (and_then (extended_width w) (measured s a).width) ∙ some)).0 ∙ extended w (measured s a).width some
 
 pub ranged-Sext : (s : Scope) (w : ℕ) (a : SslExpr) → is_ranged s (E.Sext w a) ≡ true → (is_ranged s a && is_width w) ≡ true
 unfolding is_ranged
 ranged-Sext s w a h =
-    let some : is_some (option_and_then (extended_width w) (measured s a).width) ≡ true = sym (ap (λ m. is_some m.width) (measure-Sext s w a)) ∙ h in
+    let some : is_some (option_and_then (extended_width w) (measured s a).width) ≡ true = sym (ap (λ m. is_some m.width) (fold-Sext (node_measured s) w a)) ∙ h in
     ap (λ t. t && is_width w) (and_parts (is_some (measured s a).width) (is_some (option_and_then (extended_width w) (measured s a).width)) (sym (and_then (extended_width w) (measured s a).width) ∙ some)).0 ∙ extended w (measured s a).width some
 
 pub ranged-If : (s : Scope) (c a b : SslExpr) → is_ranged s (E.If c a b) ≡ (is_ranged s c && (is_ranged s b && is_ranged s a))
 unfolding is_ranged
 ranged-If s c a b =
-    ap (λ m. is_some m.width) (measure-If s c a b) ∙ both (measured s c).width (behind (measured s b).width (measured s a).width)
+    ap (λ m. is_some m.width) (fold-If (node_measured s) c a b) ∙ both (measured s c).width (behind (measured s b).width (measured s a).width)
     ∙ ap (λ t. is_some (measured s c).width && t) (both (measured s b).width (measured s a).width)
 
 pub ranged-known_call : (s : Scope) (x : List ℕ) (es : List SslExpr) (f : Function) → function_named s.tables x ≡ Some f
@@ -99,4 +100,4 @@ pub ranged-known_call : (s : Scope) (x : List ℕ) (es : List SslExpr) (f : Func
 unfolding is_ranged
 ranged-known_call s x es f known =
     let all : Bool = list_all (λ e. is_some (measured s e).width) es in
-    ap (λ m. is_some m.width) (measure-Call s x es) ∙ ap (λ o. is_some (option_and_then (called_width all) o)) known ∙ called all f
+    ap (λ m. is_some m.width) (measured_call s x es) ∙ ap (λ o. is_some (option_and_then (called_width all) o)) known ∙ called all f

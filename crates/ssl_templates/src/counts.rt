@@ -5,7 +5,7 @@ ghost use Rattle.ssl_rules.specs.Templates.{place_nodes, act_nodes, guard_nodes,
 ghost use Rattle.ssl_nodes.specs.Sums.{few};
 
 use crate::assigned::lone_assigned;
-use ssl_nodes::node_count;
+use ssl_nodes::{few, node_count};
 use ssl_rules::LineNames;
 use ssl_syntax::{SslAct, SslExpr, SslPlace, SslTransfer};
 use std::alloc::{AllocError, Global};
@@ -76,11 +76,4 @@ fn place_count(alloc: Global, names: &LineNames, place: &SslPlace) -> Result<u32
         SslPlace::Load(_, address) => node_count(alloc, names, address),
         _ => Ok(0),
     }
-}
-
-/// A number of nodes; more than 256 are told as 257.
-fn few(n: u32) -> u32
-    ensures { result ≡ few n }
-{
-    n.min(257)
 }

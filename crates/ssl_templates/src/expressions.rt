@@ -27,7 +27,7 @@ pub fn expand(alloc: Global, names: &LineNames, e: &SslExpr) -> Result<Formula, 
 
 /// The same, exact where the numbers are in range.
 #[cycle(expansion)]
-#[tactic(auto, using(crate::proofs::ExpandLaws::expand_laws))]
+#[tactic(auto, using(ssl_syntax::proofs::FoldLaws::fold_laws, crate::proofs::ExpandLaws::expand_laws), unfolding(ssl_rules::specs::Formulas::expanded))]
 fn expansion(alloc: Global, names: &LineNames, e: &SslExpr) -> Result<Formula, AllocError>
     ensures { IfOk result (λ f. is_ranged (scope names.now) e.now ≡ true → f ≡ expanded (scope names.now) e.now) }
 {

@@ -1,7 +1,7 @@
 //! What the names of an expression or a place stand for.
 ghost use Rattle.std.specs.Prelude.{◌≡◌, ◌==◌, unwrap_or, option_map};
 ghost use Rattle.ssl_rules.specs.LineScope.{scope};
-ghost use Rattle.ssl_rules.specs.Formulas.{nothing, lone_formula, part_formula, chosen_part, is_whole};
+ghost use Rattle.ssl_rules.specs.Formulas.{nothing, lone_formula, part_formula, chosen_part};
 
 use rtl_core::{CellPart, Width};
 use ssl_rules::{Formula, Leaf, LineNames, Lone, Own, Tables};
@@ -34,7 +34,7 @@ pub fn part_formula(tables: &Tables, part: Option<CellPart>) -> Formula
 {
     match part {
         Some(part) => {
-            if is_whole(tables, part) {
+            if tables.is_whole(part) {
                 Formula::Leaf(Leaf::Cell(part.cell))
             } else {
                 Formula::Leaf(Leaf::Part(part))
@@ -61,11 +61,4 @@ pub fn chosen_part(names: &LineNames, name: &[u8], op: &[u8]) -> Option<(u16, u8
     let file = names.tables.file(name)?;
     let field = names.field(op)?;
     Some((file, field.0))
-}
-
-/// Whether a part is its whole cell.
-pub fn is_whole(tables: &Tables, part: CellPart) -> bool
-    ensures { result ≡ is_whole tables.now part }
-{
-    part.lo == 0 && u16::from(part.hi) + 1 == u16::from(tables.cell_width(usize::from(part.cell)))
 }

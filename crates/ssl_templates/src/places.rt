@@ -7,7 +7,7 @@ ghost use Rattle.ssl_rules.specs.Formulas.{chosen_part};
 ghost use Rattle.ssl_rules.specs.Templates.{expr_value, lone_place, part_place, place_of, no_place};
 
 use crate::expressions::expand;
-use crate::names::{chosen_part, is_whole};
+use crate::names::chosen_part;
 use crate::values::value_of;
 use rtl_core::{CellPart, TExpr, TPlace};
 use ssl_rules::{LineNames, Lone, Own, Tables};
@@ -65,7 +65,7 @@ fn part_place(tables: &Tables, part: Option<CellPart>) -> TPlace
 {
     match part {
         Some(part) => {
-            if is_whole(tables, part) {
+            if tables.is_whole(part) {
                 TPlace::Cell(part.cell)
             } else {
                 TPlace::Slice(part.cell, part.lo, part.hi)

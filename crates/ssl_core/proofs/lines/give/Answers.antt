@@ -2,7 +2,8 @@ use Rattle.std.proofs.Common.{refl, sym, ap, subst, map, ◌∙◌, unwrap_or}
 use Rattle.std.proofs.lemmas.Result.{on_ok_weaker}
 use Rattle.ssl_rules.specs.Given.{part_of}
 use Rattle.ssl_core.specs.State.{AreCellsNamed, shown}
-use Rattle.ssl_core.specs.Fine.{IsFine, IsFineInstruction}
+use Rattle.ssl_rules.specs.Faults.{IsFine}
+use Rattle.ssl_core.specs.Fine.{IsFineInstruction}
 use Rattle.ssl_core.specs.Functions.{function_in}
 use Rattle.ssl_core.specs.MoreTemplates.{scope_with}
 use Rattle.ssl_core.specs.OwnNames.{constructor_of, own_of}

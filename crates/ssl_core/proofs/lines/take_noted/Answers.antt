@@ -1,6 +1,6 @@
 use Rattle.std.proofs.Common.{sym, ◌∙◌}
+use Rattle.ssl_rules.proofs.FineLines.{fine_line}
 use Rattle.ssl_core.specs.State.{shown}
-use Rattle.ssl_core.proofs.FineLemmas.{fine_line}
 use Rattle.ssl_core.proofs.OwnLemmas.{once_own}
 use Rattle.ssl_core.proofs.lines.take_noted.Goals as goal
 

@@ -8,11 +8,12 @@ use Rattle.ssl_rules.specs.declared.formula.Formula.TheVariants as F
 use Rattle.ssl_rules.specs.LineScope.{scope}
 use Rattle.ssl_rules.specs.Names.{Scope, function_named}
 use Rattle.ssl_rules.specs.Widths.{is_width}
-use Rattle.ssl_rules.specs.Formulas.{expanded, put_in}
+use Rattle.ssl_rules.specs.Formulas.{expanded, node_expanded, put_in}
+use Rattle.ssl_syntax.proofs.FoldLaws.{fold-Zext, fold-Sext}
 use Rattle.ssl_templates.specs.Ranged.{is_ranged}
 use Rattle.ssl_templates.specs.Params.{has_param}
 use Rattle.ssl_templates.proofs.RangedLaws.{ranged-Zext, ranged-Sext, ranged-known_call}
-use Rattle.ssl_templates.proofs.ExpandLaws.{expanded-Zext, expanded-Sext, expanded-known_call, expanded-unknown_call}
+use Rattle.ssl_templates.proofs.ExpandLaws.{expanded-known_call, expanded-unknown_call}
 use Rattle.ssl_templates.proofs.ArgumentLemmas.{ArePut, ArePut-more}
 use Rattle.ssl_templates.proofs.expressions.+expansion.Goals as goal
 
@@ -25,22 +26,24 @@ call-loop-e-preserved t c =
     (λ ranged has. c.in_ok-argument.ensures ranged (ap (λ k. has_param k body) c.len-place.ensures ∙ has)) c.loop-e.invariant)
 
 pub expansion-returns-in_ok-boxed-in-Zext : goal.expansion-returns-in_ok-boxed-in-Zext
+unfolding expanded
 expansion-returns-in_ok-boxed-in-Zext t c = λ ranged.
     let s : Scope = scope c.args.names.now in
     let parts : (is_ranged s c.in-Zext.a ≡ true) × (is_width c.in-Zext.width ≡ true) =
     and_parts (is_ranged s c.in-Zext.a) (is_width c.in-Zext.width) (ranged-Zext s c.in-Zext.width c.in-Zext.a (ap (is_ranged s) (sym c.in-Zext.is) ∙ ranged)) in
     ap (λ w. F.Zext w c.in_ok-boxed-in-Zext.field-0) (c.width_of-in-Zext.ensures parts.1)
     ∙ ap (F.Zext c.in-Zext.width) (c.in_ok-boxed-in-Zext.ensures parts.0)
-    ∙ sym (expanded-Zext s c.in-Zext.width c.in-Zext.a) ∙ ap (expanded s) (sym c.in-Zext.is)
+    ∙ sym (fold-Zext (node_expanded s) c.in-Zext.width c.in-Zext.a) ∙ ap (expanded s) (sym c.in-Zext.is)
 
 pub expansion-returns-in_ok-boxed-in-Sext : goal.expansion-returns-in_ok-boxed-in-Sext
+unfolding expanded
 expansion-returns-in_ok-boxed-in-Sext t c = λ ranged.
     let s : Scope = scope c.args.names.now in
     let parts : (is_ranged s c.in-Sext.a ≡ true) × (is_width c.in-Sext.width ≡ true) =
     and_parts (is_ranged s c.in-Sext.a) (is_width c.in-Sext.width) (ranged-Sext s c.in-Sext.width c.in-Sext.a (ap (is_ranged s) (sym c.in-Sext.is) ∙ ranged)) in
     ap (λ w. F.Sext w c.in_ok-boxed-in-Sext.field-0) (c.width_of-in-Sext.ensures parts.1)
     ∙ ap (F.Sext c.in-Sext.width) (c.in_ok-boxed-in-Sext.ensures parts.0)
-    ∙ sym (expanded-Sext s c.in-Sext.width c.in-Sext.a) ∙ ap (expanded s) (sym c.in-Sext.is)
+    ∙ sym (fold-Sext (node_expanded s) c.in-Sext.width c.in-Sext.a) ∙ ap (expanded s) (sym c.in-Sext.is)
 
 pub expansion-returns-in-None : goal.expansion-returns-in-None
 expansion-returns-in-None t c = λ _.
