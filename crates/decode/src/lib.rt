@@ -7,9 +7,6 @@ ghost use Rattle.decode.specs.At.{found_at, AreShort};
 use rtl_core::{Conv, Frozen, Machine};
 use sled_match::{MatchedInst, Matcher};
 
-#[cfg(test)]
-mod tests;
-
 /// A described machine and an image for it: what the machine's instructions do and how they are matched,
 /// its conventions, and the bytes that no store changes.
 #[derive(Clone, Copy)]

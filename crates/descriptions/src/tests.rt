@@ -272,6 +272,39 @@ const TEMPLATES: &[(&str, &str)] = &[
         "instruction NOP (f) := none",
         "line 4: another number of operands",
     ),
+    (
+        "operand X (f) := r[f]\noperand Y (g) := r[g]\ninstruction SRC (d, e) := trap e",
+        "line 6: another number of operands",
+    ),
+    (
+        "operand X (f) := r[f]\noperand Y (g) := r[g]\ninstruction SRC (r, x) := trap x",
+        "line 6: given twice",
+    ),
+    (
+        "operand X (f, e) := r[e]",
+        "line 4: another number of operands",
+    ),
+    (
+        "operand X (f, e) := e[f]",
+        "line 4: another number of operands",
+    ),
+    (
+        "instruction NOP (e) := *32* e := e[3]",
+        "line 4: another number of operands",
+    ),
+    (
+        "instruction NOP (e) := *32* e[0] := r[e]",
+        "line 4: another number of operands",
+    ),
+    (
+        "instruction NOP (e) := *8* bits(e, 0, 7) := 1:8",
+        "line 4: another number of operands",
+    ),
+    (
+        "instruction NOP (e) := trap e(1:32)",
+        "line 4: an unknown name",
+    ),
+    ("instruction NOP (e) := trap q", "line 4: an unknown name"),
     ("operand ADD (f, g) := r[0]", "line 4: an unknown name"),
     ("operand Q (f) := r[f]", "line 4: an unknown name"),
     ("instruction X (f) := none", "line 4: an unknown name"),
@@ -505,6 +538,11 @@ const CONVENTIONS: &[(&str, &str)] = &[
     ("call low", "line 1: an unknown name"),
     ("return low", "line 1: an unknown name"),
     ("call B", "line 1: an unknown name"),
+    ("pad Q", "line 1: an unknown name"),
+    ("pad B", "line 1: an unknown name"),
+    ("args 64", "line 1: an unknown name"),
+    ("args 258\nstack y 0 4096 256", "line 1: an unknown name"),
+    ("heap 0 4096\nargs 0\nargs 0", "line 2: an unknown name"),
     ("elf 2\nelf 70000", "line 2: given twice"),
     ("exit 1\nread 3\nexit 1", "line 3: given twice"),
     ("link y\nlink C", "line 2: given twice"),
@@ -519,6 +557,14 @@ const CONVENTIONS: &[(&str, &str)] = &[
     ("brk 1\nbrk 1", "line 2: given twice"),
     (
         "errors fault 1 descriptor 2 unknown 3\nentry 1\nerrors fault 1 descriptor 2 unknown 3",
+        "line 3: given twice",
+    ),
+    (
+        "stack y 0 4096 256\nargs 64\nargs 64",
+        "line 3: given twice",
+    ),
+    (
+        "stack y 0 4096 256\nargs 64\nargs 258",
         "line 3: given twice",
     ),
     ("elf 65536", "line 1: out of range"),
@@ -551,6 +597,13 @@ const CONVENTIONS: &[(&str, &str)] = &[
         "elf 2\nstack r[14] 0xEF000000 0x00800000 256\nheap 0x20000000 0x01000001",
         "line 3: out of range",
     ),
+    ("stack y 0 4096 256\nargs 258", "line 2: out of range"),
+    ("stack y 0 4096 264\nargs 258", "line 2: out of range"),
+    ("stack y 0 4096 256\nargs 260", "line 2: out of range"),
+    (
+        "stack y 0 4096 256\nargs 4294967296",
+        "line 2: out of range",
+    ),
     ("stack C 0 4096 0", "line 1: a cell of 1 bits, not 32"),
     ("link C", "line 1: a cell of 1 bits, not 32"),
     (
@@ -578,6 +631,10 @@ const CONVENTIONS: &[(&str, &str)] = &[
     ("stack y 0xFF800000 0x00800000 8", "no line of kind 1"),
     ("heap 0 4096\nstack y 4096 4096 0", "no line of kind 1"),
     ("exit 4294967295", "no line of kind 1"),
+    ("stack y 0 4096 256\nargs 256", "no line of kind 1"),
+    ("stack y 0 4096 256\nargs 4", "no line of kind 1"),
+    ("stack y 0 4096 0\nargs 0", "no line of kind 1"),
+    ("pad ORI\npad TA\npad ORI\nreturn ORI", "no line of kind 1"),
     ("elf 2", "no line of kind 2"),
     ("elf 2\nstack y 0 4096 0", "no line of kind 3"),
     (

@@ -11,8 +11,6 @@ mod sink;
 mod source;
 mod store;
 mod system;
-#[cfg(test)]
-mod tests;
 mod word;
 
 pub use fault::Failed;

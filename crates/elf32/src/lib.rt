@@ -44,6 +44,3 @@ pub fn read_elf(alloc: Global, file: &[u8], conv: &Conv, order: Order) -> Result
         symbols,
     })
 }
-
-#[cfg(test)]
-mod tests;

@@ -9,8 +9,6 @@ mod freezing;
 mod image;
 mod making;
 mod mapping;
-#[cfg(test)]
-mod tests;
 
 pub use fault::ImageFault;
 pub use image::Image;

@@ -15,14 +15,3 @@ pub fn pieces_compose<T>()
     ensures both { (token_of : List ℕ → Option ℕ → Option T) → (is_blank : ℕ → Bool) → WritesBoth token_of is_blank }
     ensures all { (token_of : List ℕ → Option ℕ → Option T) → (is_blank : ℕ → Bool) → WritesAll token_of is_blank }
 {}
-
-#[cfg(test)]
-mod tests {
-    use super::*;
-
-    #[test]
-    fn laws_hold_at_a_type() {
-        blanks_separate::<u8>();
-        pieces_compose::<u8>();
-    }
-}

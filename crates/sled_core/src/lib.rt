@@ -25,6 +25,3 @@ pub fn normal_sled(alloc: Global, lines: &[SledLine]) -> Result<Encodings, SledF
 {
     normal_form(alloc, lines)
 }
-
-#[cfg(test)]
-mod tests;

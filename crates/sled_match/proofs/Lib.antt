@@ -2,4 +2,3 @@ pub mod Steps
 pub mod Sizes
 pub mod Readiness
 pub mod DepthLaws
-pub mod SoundSamples

@@ -7,8 +7,6 @@ mod matched;
 mod matcher;
 mod slots;
 mod taking;
-#[cfg(test)]
-mod tests;
 mod token;
 
 pub use depth::depth_is_enough;

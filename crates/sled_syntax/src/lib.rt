@@ -11,6 +11,3 @@ pub use line::{FieldDef, Part, SledBody, SledItem, SledLine, SledPattern};
 pub use line_reading::SyntaxFault;
 pub use reading::{lines_differ, read_sled};
 pub use spelling::spell;
-
-#[cfg(test)]
-mod tests;

@@ -6,8 +6,6 @@ mod placing;
 mod range;
 mod search;
 mod space;
-#[cfg(test)]
-mod tests;
 
 pub use fault::{AccessFault, SpaceFault};
 pub use range::Range;

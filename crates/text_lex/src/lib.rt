@@ -78,6 +78,3 @@ pub fn lines(alloc: Global, text: &[u8]) -> Result<Items<LogicalLine>, LexFault>
         Some(fault) => Err(fault),
     }
 }
-
-#[cfg(test)]
-mod tests;

@@ -5,11 +5,12 @@ ghost use Rattle.rtl_core.specs.Access.{is_size};
 ghost use Rattle.rtl_core.specs.SoundTerms.{HasWidth, IsSoundAct, IsSoundGuard, IsSoundTransfer};
 ghost use Rattle.worked_values.specs.TestMachine.{IsSmall};
 
-use crate::test_memory::Ram;
+use crate::test_memory::two_ranges;
 use rtl_core::{
     Act, Bin, Cells, Expr, GroundInst, Machine, Order, Stop, Transfer, Un, Width, WinShape,
 };
 use rtl_meaning::{Effect, Windows, run_acts};
+use space::Space;
 use sqlite_items::{Boxed, Items};
 use std::alloc::{AllocError, Global};
 use std::test::Fail;
@@ -53,7 +54,7 @@ enum Plain {
 struct Outcome {
     effect: Effect,
     cells: Cells,
-    ram: Ram,
+    space: Space,
     saved: usize,
 }
 
@@ -310,35 +311,20 @@ fn perform(
     order: Order,
     align: bool,
     steps: &[(Option<bool>, Step)],
-) -> Result<Option<Outcome>, AllocError> {
+) -> Result<Option<Outcome>, Fail> {
     let machine = small_machine(alloc, order, align)?;
     let Some(inst) = instruction(alloc, steps)? else {
         return Ok(None);
     };
     let mut cells = first_cells(alloc)?;
-    let mut ram = Ram {
-        low: Vec::from_slice(alloc, &[1, 2, 3])?,
-        high: Vec::from_slice(alloc, &[4, 5, 6, 7, 8])?,
-    };
+    let mut space = two_ranges(alloc, &[1, 2, 3], &[4, 5, 6, 7, 8])?;
     let mut windows = Windows::reserve(alloc, &machine)?;
     Ok(Some(Outcome {
-        effect: run_acts(&machine, &inst, 0x40, &mut cells, &mut ram, &mut windows),
+        effect: run_acts(&machine, &inst, 0x40, &mut cells, &mut space, &mut windows),
         cells,
-        ram,
+        space,
         saved: windows.len(),
     }))
-}
-
-/// The bytes of both ranges, as one number whose first digits are the first byte.
-fn bytes_of(ram: &Ram) -> u64 {
-    let mut n: u64 = 0;
-    for byte in &ram.low {
-        n = n << 8 | u64::from(*byte);
-    }
-    for byte in &ram.high {
-        n = n << 8 | u64::from(*byte);
-    }
-    n
 }
 
 #[test]
@@ -478,7 +464,11 @@ fn accesses_answer_this(rt: HostRuntime) -> Result<(), Fail> {
             Some(loaded),
             "{bytes} bytes at {at}"
         );
-        assert_eq!(rt; bytes_of(&end.ram), left, "{bytes} bytes at {at}");
+        assert_eq!(rt;
+            end.space.load(Order::Big, 8, 0),
+            Ok(left),
+            "{bytes} bytes at {at}"
+        );
     }
     Ok(())
 }

@@ -4,14 +4,14 @@
 #[cfg(test)]
 mod act_tests;
 #[cfg(test)]
-mod c_eval_tests;
-#[cfg(test)]
-mod c_lower_tests;
+mod decode_tests;
 #[cfg(test)]
 mod rtl_core_tests;
 #[cfg(test)]
 mod rtl_meaning_tests;
 #[cfg(test)]
-mod ssl_templates_tests;
+mod sled_match_tests;
+#[cfg(test)]
+mod test_items;
 #[cfg(test)]
 mod test_memory;

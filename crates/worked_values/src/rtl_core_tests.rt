@@ -1,4 +1,5 @@
 //! Operands and addresses put into a template, and cells found by name.
+use crate::test_items::{one, two};
 use rtl_core::{
     Act, Bin, CellNames, CellPart, Expr, Form, Inst, Leaves, Machine, OperandKind, Order, TAct,
     TExpr, TPlace, TTransfer, Template, Width, ground, try_ground,
@@ -6,19 +7,6 @@ use rtl_core::{
 use sqlite_items::{Boxed, Items};
 use std::alloc::{AllocError, Global};
 use std::test::Fail;
-
-fn two<T: Drop>(alloc: Global, first: T, second: T) -> Result<Items<T>, AllocError> {
-    let mut items = Items::new(alloc);
-    items.push(first)?;
-    items.push(second)?;
-    Ok(items)
-}
-
-fn one<T: Drop>(alloc: Global, item: T) -> Result<Items<T>, AllocError> {
-    let mut items = Items::new(alloc);
-    items.push(item)?;
-    Ok(items)
-}
 
 /// `r[l] := zx(32, n) + %next`.
 fn template(alloc: Global) -> Result<Template, AllocError> {

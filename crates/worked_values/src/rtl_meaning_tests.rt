@@ -3,9 +3,10 @@ ghost use Rattle.std.specs.Prelude.{◌≡◌, ◌<◌, ◌^◌, [], ◌∷◌, 
 ghost use Rattle.rtl_core.specs.Access.{is_size};
 ghost use Rattle.rtl_meaning.specs.Sound.{IsSoundExpr};
 
-use crate::test_memory::Ram;
+use crate::test_memory::two_ranges;
 use rtl_core::{Bin, Cells, Expr, Machine, Order, Trap, Un, Width, load, store};
 use rtl_meaning::eval;
+use space::Space;
 use sqlite_items::{Boxed, Items};
 use std::alloc::{AllocError, Global};
 use std::test::Fail;
@@ -40,11 +41,8 @@ fn cell_of_two(alloc: Global) -> Result<Cells, AllocError>
 }
 
 /// Four bytes at address 0, in two ranges.
-fn four_bytes(alloc: Global) -> Result<Ram, AllocError> {
-    Ok(Ram {
-        low: [0x01].to_vec(alloc)?,
-        high: [0x02, 0x03, 0x84].to_vec(alloc)?,
-    })
+fn four_bytes(alloc: Global) -> Result<Space, Fail> {
+    two_ranges(alloc, &[0x01], &[0x02, 0x03, 0x84])
 }
 
 /// An operator over two numbers, where they fit the width.
@@ -106,7 +104,7 @@ fn operators_have_these_values(rt: HostRuntime) -> Result<(), Fail> {
     let alloc = rt.alloc();
     let machine = one_cell(alloc)?;
     let cells = cell_of_two(alloc)?;
-    let ram = four_bytes(alloc)?;
+    let space = four_bytes(alloc)?;
     for (op, w, x, y, want) in [
         (Bin::ShrS, 32, 0x8000_0000, 32, Ok(0xFFFF_FFFF)),
         (Bin::ShrU, 32, 0x8000_0000, 32, Ok(0)),
@@ -126,7 +124,7 @@ fn operators_have_these_values(rt: HostRuntime) -> Result<(), Fail> {
     ] {
         let e = operation(alloc, op, w, x, y)?.ok_or("the numbers fit")?;
         assert_eq!(rt;
-            eval(&machine, &e, &cells, &ram),
+            eval(&machine, &e, &cells, &space),
             want,
             "{op:?} at {w} of {x:#x} and {y:#x}"
         );
@@ -139,7 +137,7 @@ fn loads_answer_this(rt: HostRuntime) -> Result<(), Fail> {
     let alloc = rt.alloc();
     let machine = one_cell(alloc)?;
     let cells = cell_of_two(alloc)?;
-    let ram = four_bytes(alloc)?;
+    let space = four_bytes(alloc)?;
     for (bytes, n, want) in [
         (1, 1, Ok(0x84)),
         (2, 0, Ok(0x8403)),
@@ -151,7 +149,7 @@ fn loads_answer_this(rt: HostRuntime) -> Result<(), Fail> {
     ] {
         let e = load_beyond(alloc, bytes, n)?.ok_or("a size")?;
         assert_eq!(rt;
-            eval(&machine, &e, &cells, &ram),
+            eval(&machine, &e, &cells, &space),
             want,
             "{bytes} bytes at {n:#x} from 2"
         );
@@ -164,24 +162,24 @@ fn a_choice_takes_one_side(rt: HostRuntime) -> Result<(), Fail> {
     let alloc = rt.alloc();
     let machine = one_cell(alloc)?;
     let cells = cell_of_two(alloc)?;
-    let ram = four_bytes(alloc)?;
+    let space = four_bytes(alloc)?;
     let set = chosen_by(alloc, 1)?.ok_or("a width")?;
     let clear = chosen_by(alloc, 0)?.ok_or("a width")?;
-    assert_eq!(rt; eval(&machine, &set, &cells, &ram), Ok(0xFFFF_FF84));
-    assert_eq!(rt; eval(&machine, &clear, &cells, &ram), Ok(0xFF));
+    assert_eq!(rt; eval(&machine, &set, &cells, &space), Ok(0xFFFF_FF84));
+    assert_eq!(rt; eval(&machine, &clear, &cells, &space), Ok(0xFF));
     Ok(())
 }
 
 #[test]
 fn a_store_is_whole_or_none(rt: HostRuntime) -> Result<(), Fail> {
-    let mut ram = four_bytes(rt.alloc())?;
-    assert_eq!(rt; store(&mut ram, Order::Big, true, 2, 2, 0x1_0A0B), Ok(()));
-    assert_eq!(rt; ram.high.as_slice(), [0x02, 0x0A, 0x0B].as_slice());
+    let mut space = four_bytes(rt.alloc())?;
+    assert_eq!(rt; store(&mut space, Order::Big, true, 2, 2, 0x1_0A0B), Ok(()));
+    assert_eq!(rt; space.load(Order::Big, 4, 0), Ok(0x0102_0A0B));
     assert_eq!(rt;
-        store(&mut ram, Order::Big, false, 4, 2, 0),
+        store(&mut space, Order::Big, false, 4, 2, 0),
         Err(Trap::Memory(4))
     );
-    assert_eq!(rt; ram.high.as_slice(), [0x02, 0x0A, 0x0B].as_slice());
-    assert_eq!(rt; load(&ram, Order::Little, false, 2, 1), Ok(0x0A02));
+    assert_eq!(rt; space.load(Order::Big, 4, 0), Ok(0x0102_0A0B));
+    assert_eq!(rt; load(&space, Order::Little, false, 2, 1), Ok(0x0A02));
     Ok(())
 }

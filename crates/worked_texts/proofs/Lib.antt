@@ -1,0 +1,3 @@
+pub mod SoundMachine
+pub mod FormLaws
+pub mod PrintedSpelled

@@ -1,0 +1,2 @@
+pub mod SmallMachine
+pub mod PrintedPrograms
