@@ -1,0 +1,15 @@
+pub mod OneWrite
+pub mod Store
+pub mod Places
+pub mod WholeSpace
+pub mod Others
+pub mod FreshPages
+pub mod LaidMap
+pub mod Sorted
+pub mod Numbers
+pub mod Pieces
+pub mod Shares
+pub mod TwinLaws
+pub mod Answered
+pub mod Traps
+pub mod Standing

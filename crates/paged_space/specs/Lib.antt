@@ -1,0 +1,16 @@
+pub mod Ranges
+pub mod Faults
+pub mod Accesses
+pub mod PageTable
+pub mod Lookup
+pub mod Moves
+pub mod Follows
+pub mod FollowsLaws
+pub mod Together
+pub mod Sharing
+pub mod Stored
+pub mod Twins
+pub mod Twinned
+pub mod LaidOut
+pub mod Sorting
+pub mod Built
