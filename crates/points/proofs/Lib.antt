@@ -3,3 +3,15 @@ pub mod StepLaws
 pub mod SmallRuns
 pub mod SmallStanding
 pub mod SmallIsSound
+pub mod SpelledGround
+pub mod MatchesSpell
+pub mod GroundedSpelled
+pub mod ServicesHaveShape
+pub mod MatchesGround
+pub mod FoundStands
+pub mod ConstantTerms
+pub mod OnceLaws
+pub mod SoundJumps
+pub mod MatchLengths
+pub mod Behind
+pub mod CodeControl

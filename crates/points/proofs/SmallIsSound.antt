@@ -301,6 +301,7 @@ conv = record {
       (record { exit = omega arith; read = omega arith; write = omega arith; brk = omega arith; fault = omega arith; descriptor = omega arith; unknown = omega arith });
   entries = All-nil IsWord;
   wholes = All-nil IsWord;
+  args = λ offset e. absurd (let none : ⊥ = cc in none);
 }
 
 apart_from : (a b : ℕ) → Some a ≡ Some b → a < b → ⊥
@@ -315,6 +316,7 @@ fits = record {
   link = tt;
   calls = All-nil (λ c. is_of_type small_machine 0 c ≡ true);
   returns = All-nil (λ c. is_of_type small_machine 0 c ≡ true);
+  pads = All-nil (λ c. is_of_type small_machine 0 c ≡ true);
   service = λ s. refl;
 }
 

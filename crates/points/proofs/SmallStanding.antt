@@ -17,9 +17,11 @@ use Rattle.rtl_core.specs.declared.encodings.Test.{Test}
 use Rattle.rtl_core.specs.declared.expr.Order.TheVariants.{Big}
 use Rattle.rtl_core.specs.Matching.{Taken, holds, bound, joined, token, type_taken, instruction}
 use Rattle.rtl_core.specs.Code.{code_from}
-use Rattle.points.specs.Machine.{Standing, Outside, Illegal, Stands, standing, code_standing, match_standing, ground_standing, matched}
+use Rattle.points.specs.declared.block.Standing.{Standing}
+use Rattle.points.specs.declared.block.Standing.TheVariants.{Outside, Illegal, Stands}
+use Rattle.points.specs.Machine.{standing, code_standing, match_standing, ground_standing, matched}
 use Rattle.points.specs.SmallMachine.{small_machine, small_encodings, small_setting, or_kinds, or_tests, or_binds, service_tests}
-use Rattle.points.proofs.StepLaws.{HasNext, grounded-next}
+use Rattle.points.proofs.StepLaws.{HasShape, grounded-shape}
 
 -- the site of an `or`
 abbrev pub or_site : ℕ → ℕ → ℕ → ℕ → ℕ → Site
@@ -167,16 +169,16 @@ IsSmallStanding pc Outside = Unit {0}
 IsSmallStanding pc Illegal = Unit {0}
 IsSmallStanding pc (Stands inst) = IsSmallAt pc inst
 
-ground-at : (pc next : ℕ) (o : Option GroundInst) → next ≡ (pc + 4) % 2 ^ 32 → IsSmallInst pc next o → HasNext next o → IsSmallStanding pc (ground_standing o)
-ground-at pc next None e h k = tt
-ground-at pc next (Some g) e h k = record { small = subst (λ n. IsSmall pc n g.transfers) (sym k) h; next = k ∙ e }
+ground-at : (pc c next : ℕ) (o : Option GroundInst) → next ≡ (pc + 4) % 2 ^ 32 → IsSmallInst pc next o → HasShape c next o → IsSmallStanding pc (ground_standing o)
+ground-at pc c next None e h k = tt
+ground-at pc c next (Some g) e h k = record { small = subst (λ n. IsSmall pc n g.transfers) (sym k.1) h; next = k.1 ∙ e }
 
 match-at : (pc : ℕ) (o : Option Taken) → IsFour o → IsSmallStanding pc (match_standing small_machine pc o)
 match-at pc None h = tt
 match-at pc (Some t) h =
     let next = (pc + t.len) % 2 ^ 32 in
     let inst : Inst = record { constructor = t.constructor; leaves = t.leaves } in
-    ground-at pc next (matched small_machine pc t) (ap (λ n. (pc + n) % 2 ^ 32) h) (ground-small pc next inst) (grounded-next small_machine inst pc next)
+    ground-at pc t.constructor next (matched small_machine pc t) (ap (λ n. (pc + n) % 2 ^ 32) h) (ground-small pc next inst) (grounded-shape small_machine inst pc next)
 
 code-at : (code : List ℕ) (pc : ℕ) (o : Option (List ℕ)) → IsSmallStanding pc (code_standing (small_setting code) pc o)
 code-at code pc None = tt

@@ -11,7 +11,9 @@ use Rattle.rtl_core.specs.Matching.{Taken, instruction}
 use Rattle.rtl_core.specs.SoundMachine.{IsSoundMachine}
 use Rattle.rtl_core.specs.SoundTerms.{AreSoundTransfers}
 use Rattle.rtl_core.proofs.GroundsSound.{grounds_sound}
-use Rattle.points.specs.Machine.{Setting, Standing, Outside, Illegal, Stands, standing, code_standing, match_standing, ground_standing, matched}
+use Rattle.points.specs.declared.block.Standing.{Standing}
+use Rattle.points.specs.declared.block.Standing.TheVariants.{Outside, Illegal, Stands}
+use Rattle.points.specs.Machine.{Setting, standing, code_standing, match_standing, ground_standing, matched}
 
 -- an instruction is one of the machine's with all put in, and the address behind it has 32 bits
 pub record IsGrounded (m : Machine) (pc : ℕ) (inst : GroundInst) : Type 0 where

@@ -18,6 +18,8 @@ use Rattle.rtl_core.specs.Grounding.{grounded}
 use Rattle.rtl_core.specs.Matching.{Taken, instruction}
 use Rattle.rtl_core.specs.Services.{World, Served, asked, answered}
 use Rattle.rtl_core.specs.Transfers.{Doing, Ran, Went, Halted, all_transferred, fresh}
+use Rattle.points.specs.declared.block.Standing.{Standing}
+use Rattle.points.specs.declared.block.Standing.TheVariants.{Outside, Illegal, Stands}
 
 -- what stays the same in a run: the descriptions, and the bytes that no store changes
 pub record Setting : Type 0 where
@@ -110,12 +112,6 @@ performed setting inst s = concluded setting inst s (all_transferred setting.mac
 -- the instruction that was matched at an address, with all put in
 abbrev pub matched : Machine → ℕ → Taken → Option GroundInst
 matched m pc t = grounded m (record { constructor = t.constructor; leaves = t.leaves }) pc ((pc + t.len) % 2 ^ 32)
-
--- what stands at an address: nothing, since it is no code; bytes that are no instruction; an instruction
-pub data Standing : Type 0 where
-  Outside : Standing
-  Illegal : Standing
-  Stands : GroundInst → Standing
 
 -- an instruction with all put in, where there is one
 abbrev pub ground_standing : Option GroundInst → Standing

@@ -113,6 +113,8 @@ small_conv = record {
   returns = [];
   entries = [];
   wholes = [];
+  pads = [];
+  args = None;
 }
 
 -- where its programs begin

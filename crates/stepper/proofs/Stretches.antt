@@ -10,7 +10,9 @@ use Rattle.rtl_core.specs.declared.stop.Reply.TheVariants.{Exit, Value, Error}
 use Rattle.rtl_core.specs.declared.stop.Stop.{Stop}
 use Rattle.rtl_core.specs.Services.{Served, asked}
 use Rattle.rtl_core.specs.Transfers.{Ran, Went, Halted, all_transferred, fresh}
-use Rattle.points.specs.Machine.{Setting, State, MNext, Did, Standing, Outside, Illegal, Stands, step, stepped, standing, concluded, finished, controlled, unless_exit, after_service, after_transfers, world_of}
+use Rattle.points.specs.declared.block.Standing.{Standing}
+use Rattle.points.specs.declared.block.Standing.TheVariants.{Outside, Illegal, Stands}
+use Rattle.points.specs.Machine.{Setting, State, MNext, Did, step, stepped, standing, concluded, finished, controlled, unless_exit, after_service, after_transfers, world_of}
 
 -- ---- output only grows
 

@@ -3,23 +3,12 @@ use Rattle.std.specs.Prelude.{◌≡◌, ◌<◌, ◌^◌, ℕ, Bool, false, Lis
 use Rattle.lockstep.specs.Runs.{Goes}
 use Rattle.rtl_core.specs.declared.inst.GroundInst.{GroundInst}
 use Rattle.rtl_core.specs.declared.stop.Stop.{Stop}
-use Rattle.rtl_core.specs.SoundConv.{AreSoundTogether}
 use Rattle.rtl_meaning.specs.declared.effect.Effect.{Effect}
 use Rattle.rtl_meaning.specs.Saved.{Fits}
+use Rattle.points.specs.Bundles.{IsSoundSetting}
 use Rattle.points.specs.Machine.{Setting, State, Did, MNext, stops}
-use Rattle.decode.specs.At.{AreShort}
-use Rattle.decode.specs.declared.Bundle.{Bundle}
 use Rattle.space.specs.Ranges.{memory_of}
 use Rattle.stepper.specs.declared.run_state.RunState.{RunState}
-
--- the setting that a bundle is
-abbrev pub setting_of : Bundle → Setting
-setting_of on = record { encodings = on.matcher.now; machine = on.machine.now; conv = on.conv.now; frozen = on.frozen.now }
-
--- the descriptions are sound together, and the parts of the image are short
-pub record IsSoundSetting (setting : Setting) : Type 0 where
-  pub sound : AreSoundTogether setting.encodings setting.machine setting.conv
-  pub short : AreShort setting.frozen
 
 -- the state that a run is in, with this output so far
 abbrev pub state_of : List ℕ → RunState → State

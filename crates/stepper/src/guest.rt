@@ -3,7 +3,8 @@ ghost use Rattle.std.specs.Prelude.{◌≡◌, ◌≤◌, ◌++◌, [], ℕ, Lis
 ghost use Rattle.rtl_core.specs.declared.stop.RunEnd.TheVariants.{Spent};
 ghost use Rattle.points.specs.Machine.{first_state, step as next_of};
 ghost use Rattle.space.specs.Ranges.{memory_of};
-ghost use Rattle.stepper.specs.Shown.{Shown, IsReady, IsSoundSetting, setting_of, state_of, moment};
+ghost use Rattle.stepper.specs.Shown.{Shown, IsReady, state_of, moment};
+ghost use Rattle.points.specs.Bundles.{IsSoundSetting, setting_of};
 ghost use Rattle.stepper.specs.Ran.{Came, MadeSome, TellsStop, Took, TookPrefix, AddsWritten, written, end_after};
 
 use crate::one_step::advance;
@@ -33,7 +34,8 @@ pub struct Guest<'a> {
 impl<'a> Model for Guest<'a> {
     ghost use Rattle.std.specs.Coded.{codes};
     ghost use Rattle.rtl_core.specs.contracts.template.TExpr as template;
-    ghost use Rattle.stepper.specs.Shown.{Shown, IsWhole, setting_of};
+    ghost use Rattle.stepper.specs.Shown.{Shown, IsWhole};
+    ghost use Rattle.points.specs.Bundles.{setting_of};
 
     ghost Value = { Shown };
 

@@ -4,7 +4,8 @@ ghost use Rattle.rtl_core.specs.declared.conv.ServiceShape.{ServiceShape};
 ghost use Rattle.rtl_core.specs.Services.{asked};
 ghost use Rattle.rtl_core.specs.SoundTerms.{IsSoundTransfer};
 ghost use Rattle.points.specs.Machine.{Setting, State, step as next_of, controlled, finished, performed, with_answer, world_of};
-ghost use Rattle.stepper.specs.Shown.{setting_of, state_of, did_of, moment, FitsSetting, IsSoundSetting};
+ghost use Rattle.stepper.specs.Shown.{state_of, did_of, moment, FitsSetting};
+ghost use Rattle.points.specs.Bundles.{setting_of, IsSoundSetting};
 
 use crate::run_state::RunState;
 use decode::{Bundle, Found, inst_at};

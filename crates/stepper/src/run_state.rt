@@ -2,7 +2,7 @@
 ghost use Rattle.std.specs.Prelude.{◌≡◌, ◌<◌, ◌≤◌, ◌+◌, [], length, IfOk};
 ghost use Rattle.rtl_core.specs.FirstMemory.{first_cells};
 ghost use Rattle.rtl_meaning.specs.Saved.{HaveShape};
-ghost use Rattle.stepper.specs.Shown.{IsSoundSetting, setting_of};
+ghost use Rattle.points.specs.Bundles.{IsSoundSetting, setting_of};
 
 use decode::Bundle;
 use rtl_core::{Cells, Conv, Machine, Point};

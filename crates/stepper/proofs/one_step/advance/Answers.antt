@@ -1,5 +1,6 @@
 use Rattle.std.proofs.Common.{◌∙◌, sym, arith}
-use Rattle.stepper.specs.Shown.{setting_of, state_of}
+use Rattle.stepper.specs.Shown.{state_of}
+use Rattle.points.specs.Bundles.{setting_of}
 use Rattle.stepper.proofs.Branches.{step-outside, step-illegal, step-unground, step-ground, ground-sound}
 use Rattle.stepper.proofs.one_step.advance.Goals as goal
 

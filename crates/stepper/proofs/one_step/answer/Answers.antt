@@ -2,7 +2,8 @@ use Rattle.rtl_core.specs.Services.{asked}
 use Rattle.space.specs.Ranges.{memory_of}
 use Rattle.points.specs.Machine.{world_of}
 use Rattle.std.proofs.Common.{ap, refl, []}
-use Rattle.stepper.specs.Shown.{setting_of, state_of, did_of}
+use Rattle.stepper.specs.Shown.{state_of, did_of}
+use Rattle.points.specs.Bundles.{setting_of}
 use Rattle.stepper.proofs.Serving.{answer-exits, answer-on, with_parts, fits-behind-service}
 use Rattle.stepper.proofs.one_step.answer.Goals as goal
 

@@ -1,6 +1,7 @@
 use Rattle.std.proofs.Common.{◌∙◌, refl, sym, ap, ◌++◌, append-nil}
 use Rattle.std.specs.Prelude.{IsSome}
-use Rattle.stepper.specs.Shown.{setting_of, state_of, did_of, moment}
+use Rattle.stepper.specs.Shown.{state_of, did_of, moment}
+use Rattle.points.specs.Bundles.{setting_of}
 use Rattle.stepper.proofs.Branches.{finished-serves, finished-plain, due-shape}
 use Rattle.stepper.proofs.one_step.finish.Goals as goal
 

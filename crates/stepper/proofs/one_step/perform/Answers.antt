@@ -1,7 +1,8 @@
 use Rattle.std.proofs.Common.{◌∙◌, ap}
 use Rattle.rtl_meaning.specs.Effects.{doing, finished}
 use Rattle.space.specs.Ranges.{memory_of}
-use Rattle.stepper.specs.Shown.{setting_of, state_of}
+use Rattle.stepper.specs.Shown.{state_of}
+use Rattle.points.specs.Bundles.{setting_of}
 use Rattle.stepper.proofs.Branches.{performed-halts, performed-went}
 use Rattle.stepper.proofs.one_step.perform.Goals as goal
 

@@ -1,6 +1,6 @@
 use Rattle.std.proofs.Common.{refl, ap}
 use Rattle.space.specs.Ranges.{memory_of}
-use Rattle.stepper.specs.Shown.{setting_of}
+use Rattle.points.specs.Bundles.{setting_of}
 use Rattle.stepper.proofs.FirstCells.{fits-first, first-begun}
 use Rattle.stepper.proofs.guest.Guest.build.Goals as goal
 
