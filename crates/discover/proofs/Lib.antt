@@ -1,0 +1,12 @@
+pub mod Lists
+pub mod Equal
+pub mod Closed
+pub mod Remembered
+pub mod Grown
+pub mod WholeBodies
+pub mod WholeJumps
+pub mod Assembled
+pub mod OneGraph
+pub mod LookedUp
+pub mod Serving
+pub mod SameTables

@@ -1,0 +1,4 @@
+pub mod Places
+pub mod Seen
+pub mod Parts
+pub mod GraphLaws

@@ -1,0 +1,5 @@
+pub mod Extended
+pub mod Searched
+pub mod AscendingLists
+pub mod Members
+pub mod Alike
