@@ -1,0 +1,17 @@
+pub mod KnownFits
+pub mod StartsWhole
+pub mod Alike
+pub mod Agree
+pub mod Idle
+pub mod Unmentioned
+pub mod Ways
+pub mod IdleCells
+pub mod Influenced
+pub mod Ready
+pub mod Walks
+pub mod FirstTrial
+pub mod OneTable
+pub mod RisenTargets
+pub mod TheTable
+pub mod Addresses
+pub mod Targets
