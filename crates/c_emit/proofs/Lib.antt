@@ -9,4 +9,4 @@ pub mod CellLaws
 pub mod LineLaws
 pub mod TextLaws
 pub mod Spelling
-pub mod Addresses
+pub mod Fitting

@@ -11,11 +11,14 @@ use Rattle.points.proofs.StandingSound.{standing-grounded, standing-sound}
 use Rattle.c_lang.specs.declared.tree.CBlock.{CBlock}
 use Rattle.c_lower.specs.Accounts.{lowered_need}
 use Rattle.c_lower.proofs.GroundBound.{all_within}
-use Rattle.c_emit.specs.Emitted.{setting_of, standing_need, most_need, IsSoundBundle}
+use Rattle.c_emit.specs.Emitted.{standing_need, most_need}
+use Rattle.points.specs.Bundles.{setting_of, IsSoundBundle}
 use Rattle.c_emit.specs.Line.{line, line_block, onward, along, ends_within}
 use Rattle.c_emit.specs.LineTheorem.{lowering}
 use Rattle.decode.specs.declared.Bundle.{Bundle}
-use Rattle.points.specs.Machine.{Setting, Standing, Outside, Illegal, Stands, standing, code_standing, match_standing, ground_standing}
+use Rattle.points.specs.declared.block.Standing.{Standing}
+use Rattle.points.specs.declared.block.Standing.TheVariants.{Outside, Illegal, Stands}
+use Rattle.points.specs.Machine.{Setting, standing, code_standing, match_standing, ground_standing}
 use Rattle.decode.specs.At.{found, found_in, found_at}
 use Rattle.decode.specs.declared.Found.{Found}
 use Rattle.sled_match.specs.declared.matched.MatchedInst.{MatchedInst}

@@ -9,7 +9,7 @@ use Rattle.rtl_core.specs.declared.conv.ServiceShape.{ServiceShape}
 use Rattle.rtl_core.specs.declared.stop.Stop.{Stop}
 use Rattle.rtl_core.specs.Services.{World}
 use Rattle.rtl_core.specs.FirstMemory.{Part, Block, first_memory, first_cells}
-use Rattle.points.specs.Machine.{Setting, Stands, standing, machine_run}
+use Rattle.points.specs.Machine.{Setting, standing, machine_run}
 use Rattle.points.specs.Machine as Machine
 use Rattle.c_lang.specs.declared.tree.Program.{Program}
 use Rattle.c_lang.specs.declared.tree.Var.TheVariants.{Ra, Cell, Temp}

@@ -19,7 +19,9 @@ use Rattle.rtl_core.specs.SoundTerms.{Fit, is_service, is_jump, is_annul}
 use Rattle.rtl_core.specs.Transfers.{Ran, Went, Halted, all_transferred, fresh, put_cell}
 use Rattle.rtl_core.proofs.Kept.{Keeps, no-service, no-jump, no-annul}
 use Rattle.rtl_core.proofs.ServiceFits.{FitsServed, AreErrorWords, served-fits, result-fits, error-fits}
-use Rattle.points.specs.Machine.{Setting, Did, MNext, Standing, Outside, Illegal, Stands, standing, stepped, concluded, finished, controlled, with_answer, unless_exit, after_service, after_transfers, at_address, world_of}
+use Rattle.points.specs.declared.block.Standing.{Standing}
+use Rattle.points.specs.declared.block.Standing.TheVariants.{Outside, Illegal, Stands}
+use Rattle.points.specs.Machine.{Setting, Did, MNext, standing, stepped, concluded, finished, controlled, with_answer, unless_exit, after_service, after_transfers, at_address, world_of}
 use Rattle.points.specs.Machine as Machine
 use Rattle.points.proofs.StepLaws.{controlled-goes, standing-next}
 use Rattle.c_lang.specs.declared.tree.CExpr.{CExpr}

@@ -12,11 +12,11 @@ use Rattle.c_lang.specs.State.{has}
 use Rattle.c_lower.specs.Accounts.{lowered_need}
 use Rattle.rtl_core.specs.FirstMemory.{Part}
 use Rattle.c_emit.specs.Line.{line, ends_within, segment_of}
-use Rattle.c_emit.specs.Emitted.{setting_of, text_of, standing_need, most_need, line_temporaries, IsSoundBundle, TranslatesLines}
+use Rattle.c_emit.specs.Emitted.{text_of, standing_need, most_need, line_temporaries, TranslatesLines}
+use Rattle.points.specs.Bundles.{setting_of, IsSoundBundle}
 use Rattle.c_emit.specs.LineTheorem.{OnLine, IsStraightLine}
 use Rattle.c_emit.specs.Same.{IsSame}
 use Rattle.c_unique.specs.Unique.{OneProgram}
-use Rattle.c_emit.proofs.Addresses.{text_has_addresses}
 use Rattle.c_emit.proofs.LineRuns.{straight-lines-are-same}
 use Rattle.c_emit.proofs.Spelling.{text_has_spelling}
 
@@ -58,8 +58,7 @@ translates : (on : Bundle) (segments : List CSeg) (n entry : ℕ) (p : Program) 
 translates on segments n entry p bundle fits ends is law parts are short = record {
   same = text_is_same on segments n entry p bundle fits is parts are ends;
   spelled = text_has_spelling on segments n entry p bundle fits is short;
-  addresses = text_has_addresses on segments n entry p bundle fits is;
-  only = λ text other numbers this that. law text other p numbers (text_has_addresses on segments n entry p bundle fits is) that this;
+  only = λ text other this that. law text other p that this;
 }
 
 pub found_translates : (on : Bundle) (segments : List CSeg) (n entry : ℕ) (found : Option Program) → IsSoundBundle on → entry < 2 ^ 32 → IfSome found (λ p. p ≡ text_of (setting_of on) segments n entry)

@@ -15,7 +15,9 @@ use Rattle.rtl_core.specs.declared.transfer.Transfer.{Transfer}
 use Rattle.rtl_core.specs.SoundTerms.{is_service, is_jump, is_annul}
 use Rattle.rtl_core.specs.FirstMemory.{Part, first_cells}
 use Rattle.rtl_core.specs.Services.{numbers_of}
-use Rattle.points.specs.Machine.{Setting, Standing, Outside, Illegal, Stands, standing}
+use Rattle.points.specs.declared.block.Standing.{Standing}
+use Rattle.points.specs.declared.block.Standing.TheVariants.{Outside, Illegal, Stands}
+use Rattle.points.specs.Machine.{Setting, standing}
 use Rattle.c_lang.specs.declared.tree.CBlock.{CBlock}
 use Rattle.c_lang.specs.declared.tree.CExpr.TheVariants.{Num, Of}
 use Rattle.c_lang.specs.declared.tree.CSeg.{CSeg}

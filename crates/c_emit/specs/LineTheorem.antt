@@ -4,7 +4,8 @@ use Rattle.rtl_core.specs.declared.inst.GroundInst.{GroundInst}
 use Rattle.rtl_core.specs.FirstMemory.{Part}
 use Rattle.rtl_core.specs.SoundConv.{IsSoundConv, FitsMachine, AreSoundTogether}
 use Rattle.rtl_core.specs.SoundTerms.{AreWidths}
-use Rattle.points.specs.Machine.{Setting, Stands, standing}
+use Rattle.points.specs.declared.block.Standing.TheVariants.{Stands}
+use Rattle.points.specs.Machine.{Setting, standing}
 use Rattle.c_lang.specs.State.{has}
 use Rattle.c_lower.specs.Accounts.{lowered_need}
 use Rattle.c_lower.specs.Contract.{DoTransfers}

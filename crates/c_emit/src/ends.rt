@@ -1,7 +1,7 @@
 //! Whether a line ends within some addresses, without its text.
 ghost use Rattle.std.specs.Prelude.{◌≡◌, IfOk};
 ghost use Rattle.points.specs.Machine.{standing};
-ghost use Rattle.c_emit.specs.Emitted.{setting_of, IsSoundBundle};
+ghost use Rattle.points.specs.Bundles.{setting_of, IsSoundBundle};
 ghost use Rattle.c_emit.specs.Line.{ends_within, onward};
 
 use crate::control::address_behind;

@@ -1,8 +1,10 @@
 //! The blocks of a line of instructions.
 ghost use Rattle.std.specs.Prelude.{◌≡◌, ◌++◌, [], ◌∷◌, None, map, max, OnOk, IfOk};
-ghost use Rattle.points.specs.Machine.{Stands, standing};
+ghost use Rattle.points.specs.declared.block.Standing.TheVariants.{Stands};
+ghost use Rattle.points.specs.Machine.{standing};
 ghost use Rattle.c_lower.specs.Accounts.{lowered_need};
-ghost use Rattle.c_emit.specs.Emitted.{setting_of, standing_need, line_temporaries, IsSoundBundle};
+ghost use Rattle.c_emit.specs.Emitted.{standing_need, line_temporaries};
+ghost use Rattle.points.specs.Bundles.{setting_of, IsSoundBundle};
 ghost use Rattle.c_emit.specs.Line.{behind, ends_within, point_at, line, line_block, onward};
 ghost use Rattle.c_emit.specs.LineTheorem.{lowering};
 

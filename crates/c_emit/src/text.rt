@@ -1,6 +1,7 @@
 //! The C text of a line of instructions.
 ghost use Rattle.std.specs.Prelude.{◌≡◌, IfOk, IfSome, is_some};
-ghost use Rattle.c_emit.specs.Emitted.{setting_of, text_of, IsSoundBundle, TranslatesLines};
+ghost use Rattle.c_emit.specs.Emitted.{text_of, TranslatesLines};
+ghost use Rattle.points.specs.Bundles.{setting_of, IsSoundBundle};
 ghost use Rattle.c_emit.specs.Line.{ends_within};
 
 use crate::cells::{first_values, parameters};
@@ -13,9 +14,9 @@ use sqlite_items::Items;
 use std::alloc::{AllocError, Global};
 
 /// The C text of the line from `entry` on over a first memory of these segments, or None exactly where the line has
-/// more than `most` addresses, its end counted: one function with every cell but the zero cell as a parameter. Where no segment is
-/// too long for an array, the text is a translation: it is the same as the machine, it can be spelled, and no other
-/// program has its text. An error is a want of memory.
+/// more than `most` addresses, its end counted: one function with every cell but the zero cell as a parameter. Where the
+/// numbers of the segments fit, the text is a translation: it is the same as the machine, it can be spelled, and no
+/// other program has its text. An error is a want of memory.
 pub fn line_program(
     alloc: Global,
     on: &Bundle,

@@ -41,23 +41,25 @@ numbered-at test item i (suc k) (y ∷ xs) x h e =
 -- the parts of a test of all items of a text
 pub record Parts (test : Item → Bool) (t : Text) : Type 0 where
   pub machine : test (Machine t.machine) ≡ true
-  pub segments : list_all test (map Segment t.segments) ≡ true
+  pub segments : list_all test (numbered Segment 0 t.segments) ≡ true
   pub table : test (Table t.table) ≡ true
   pub prototypes : list_all test (numbered Declared 0 t.prototypes) ≡ true
   pub functions : list_all test (numbered Defined 0 t.functions) ≡ true
-  pub main : test Main ≡ true
+  pub main : test (Main t.entry t.first) ≡ true
 
 pub parts : (test : Item → Bool) (t : Text) → list_all test (items t) ≡ true → Parts test t
 parts test t h =
+    let arrays = numbered Segment 0 t.segments in
     let protos = numbered Declared 0 t.prototypes in
     let bodies = numbered Defined 0 t.functions in
+    let main = Main t.entry t.first in
     let a = and_parts (test Include) _ h in
     let b = and_parts (test (Machine t.machine)) _ a.1 in
-    let c = and_parts (list_all test (map Segment t.segments)) (list_all test (Table t.table ∷ (protos ++ (bodies ++ Main ∷ [])))) (sym (list_all-append test (map Segment t.segments) (Table t.table ∷ (protos ++ (bodies ++ Main ∷ [])))) ∙ b.1) in
-    let d = and_parts (test (Table t.table)) (list_all test (protos ++ (bodies ++ Main ∷ []))) c.1 in
-    let e = and_parts (list_all test protos) (list_all test (bodies ++ Main ∷ [])) (sym (list_all-append test protos (bodies ++ Main ∷ [])) ∙ d.1) in
-    let f = and_parts (list_all test bodies) (list_all test (Main ∷ [])) (sym (list_all-append test bodies (Main ∷ [])) ∙ e.1) in
-    let g = and_parts (test Main) true f.1 in
+    let c = and_parts (list_all test (arrays)) (list_all test (Table t.table ∷ (protos ++ (bodies ++ main ∷ [])))) (sym (list_all-append test (arrays) (Table t.table ∷ (protos ++ (bodies ++ main ∷ [])))) ∙ b.1) in
+    let d = and_parts (test (Table t.table)) (list_all test (protos ++ (bodies ++ main ∷ []))) c.1 in
+    let e = and_parts (list_all test protos) (list_all test (bodies ++ main ∷ [])) (sym (list_all-append test protos (bodies ++ main ∷ [])) ∙ d.1) in
+    let f = and_parts (list_all test bodies) (list_all test (main ∷ [])) (sym (list_all-append test bodies (main ∷ [])) ∙ e.1) in
+    let g = and_parts (test main) true f.1 in
     record { machine = b.0; segments = c.0; table = d.0; prototypes = e.0; functions = f.0; main = g.0 }
 
 -- each function of a program keeps a rule that the program keeps

@@ -1,5 +1,5 @@
 -- A C text as its items, and what a function's body mentions.
-use Rattle.std.specs.Prelude.{ℕ, ◌+◌, List, [], ◌∷◌, ◌++◌, length, map}
+use Rattle.std.specs.Prelude.{ℕ, ◌+◌, List, [], ◌∷◌, ◌++◌, flat_map, length, map}
 use Rattle.rtl_core.specs.declared.expr.Order.{Order}
 use Rattle.rtl_core.specs.declared.expr.Order.TheVariants.{Little, Big}
 use Rattle.rtl_core.specs.declared.point.Point.{Point}
@@ -40,15 +40,16 @@ pub record Text : Type 0 where
   pub entry : ℕ
   pub first : List ℕ
 
--- one item; prototypes and functions with their places, each among its kind
+-- one item: the first line, the arrays, prototypes and functions, and the call of the first function; what there can be
+-- several of stands with its place among its kind
 pub data Item : Type 0 where
   Include : Item
   Machine : Array → Item
-  Segment : Array → Item
+  Segment : (k : ℕ) → Array → Item
   Table : Array → Item
   Declared : (k : ℕ) → Prototype → Item
   Defined : (k : ℕ) → Function → Item
-  Main : Item
+  Main : (entry : ℕ) (first : List ℕ) → Item
 
 -- members with their places, counted from k on
 abbrev pub numbered : {A : Type 0} → (ℕ → A → Item) → ℕ → List A → List Item
@@ -58,7 +59,8 @@ numbered item k (x ∷ xs) = item k x ∷ numbered item (k + 1) xs
 -- the items of a text, in order
 abbrev pub items : Text → List Item
 items t =
-    Include ∷ Machine t.machine ∷ (map Segment t.segments ++ (Table t.table ∷ (numbered Declared 0 t.prototypes ++ (numbered Defined 0 t.functions ++ Main ∷ []))))
+    Include ∷ Machine t.machine
+    ∷ (numbered Segment 0 t.segments ++ (Table t.table ∷ (numbered Declared 0 t.prototypes ++ (numbered Defined 0 t.functions ++ Main t.entry t.first ∷ []))))
 
 -- ---- the text of a program
 
@@ -66,11 +68,20 @@ items t =
 abbrev pub whole : List ℕ → Array
 whole numbers = record { declared = length numbers; numbers = numbers }
 
+-- one 0 where there is no number
+abbrev pub or_zero : List ℕ → List ℕ
+or_zero [] = 0 ∷ []
+or_zero (n ∷ ns) = n ∷ ns
+
 -- the array of numbers, which is `[1] = { 0 }` where there is none
 abbrev pub filled : List ℕ → Array
-filled [] = whole (0 ∷ [])
-filled (n ∷ ns) = whole (n ∷ ns)
+filled numbers = whole (or_zero numbers)
 
+-- the array of a segment's bytes
+abbrev pub segment_array : CSeg → Array
+segment_array s = filled s.bytes
+
+-- 0 for little-endian, 1 for big-endian
 abbrev pub order_number : Order → ℕ
 order_number Little = 0
 order_number Big = 1
@@ -81,10 +92,13 @@ header_numbers h =
     order_number h.order ∷ flag h.align ∷ h.heap_base ∷ h.heap_size ∷ h.stack_base ∷ h.stack_size ∷ h.exit ∷ h.read ∷ h.write ∷ h.brk ∷ h.fault
     ∷ h.descriptor ∷ h.unknown ∷ flag h.carry ∷ []
 
--- the numbers of `uq_segs`: base, write, file length and length of each segment
+-- a segment's numbers in `uq_segs`: its base, whether it is written, its file length, its length
+abbrev pub segment_numbers : CSeg → List ℕ
+segment_numbers s = s.base ∷ flag s.write ∷ length s.bytes ∷ s.len ∷ []
+
+-- the numbers of `uq_segs`
 abbrev pub table_numbers : List CSeg → List ℕ
-table_numbers [] = []
-table_numbers (s ∷ ss) = s.base ∷ flag s.write ∷ length s.bytes ∷ s.len ∷ table_numbers ss
+table_numbers ss = flat_map segment_numbers ss
 
 abbrev pub prototype_of : Function → Prototype
 prototype_of f = record { entry = f.entry; params = f.params }
@@ -93,7 +107,7 @@ prototype_of f = record { entry = f.entry; params = f.params }
 abbrev pub text_of : Program → Text
 text_of p = record {
   machine = whole (header_numbers p.header);
-  segments = map (λ s. filled s.bytes) p.segments;
+  segments = map segment_array p.segments;
   table = filled (table_numbers p.segments);
   prototypes = map prototype_of p.functions;
   functions = p.functions;

@@ -47,7 +47,7 @@ is_like p (Some q) = (p.entry == q.entry) && pointwise (λ c d. c == d) p.params
 abbrev pub known : Text → Item → Bool
 known t (Declared k p) = is_like p (option_map prototype_of (slice_get t.functions k))
 known t (Defined k f) = is_like (prototype_of f) (slice_get t.prototypes k) && list_all (is_declared t f) (mentions f)
-known t Main = is_some (prototype_at t.prototypes t.entry)
+known t (Main entry first) = is_some (prototype_at t.prototypes entry)
 known t _ = true
 
 -- ---- 3: a call has as many arguments as the function has parameters
@@ -63,7 +63,7 @@ is_counted t _ = true
 
 abbrev pub counted : Text → Item → Bool
 counted t (Defined k f) = list_all (is_counted t) (mentions f)
-counted t Main = takes t t.entry (length t.first)
+counted t (Main entry first) = takes t entry (length first)
 counted t _ = true
 
 -- ---- 4: sizes of accesses, lengths of arrays, flags
@@ -108,7 +108,7 @@ is_table (s ∷ ss) a = (length a.numbers == 4 * length (s ∷ ss)) && each_hold
 abbrev pub sized : Text → Item → Bool
 sized t (Machine a) =
     is_whole a && (length a.numbers == 14) && is_flag (slice_index a.numbers 0) && is_flag (slice_index a.numbers 1) && is_flag (slice_index a.numbers 13)
-sized t (Segment a) = is_whole a
+sized t (Segment k a) = is_whole a
 sized t (Table a) = is_whole a && is_table t.segments a
 sized t (Defined k f) = list_all is_access (mentions f)
 sized t _ = true

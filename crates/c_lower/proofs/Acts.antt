@@ -326,7 +326,7 @@ is_lowered m lowerable pc pc32 ts sound named naming temps room = record {
   };
   within = lowered_within m lowerable.windows ts sound.one_move;
   tidy =
-      lowered_tidy m pc named temps lowerable.windows ts
+      lowered_tidy m lowerable.widths pc pc32 named temps lowerable.windows ts
       (omega (arith, four_needed ts, room)) sound.each naming.each room;
   onto = lowered_onto m pc ts;
 }

@@ -1,5 +1,5 @@
 -- What statements read and assign, whichever way each `if` goes.
-use Rattle.std.specs.Prelude.{◌≡◌, ℕ, suc, ◌<◌, ◌==◌, Bool, true, if◌then◌else◌, List, [], ◌∷◌}
+use Rattle.std.specs.Prelude.{◌≡◌, ℕ, suc, ◌<◌, ◌^◌, ◌==◌, Bool, true, if◌then◌else◌, List, [], ◌∷◌}
 use Rattle.rtl_core.specs.Access.{is_size}
 use Rattle.c_lang.specs.declared.tree.COp.{COp}
 use Rattle.c_lang.specs.declared.tree.Var.TheVariants.{Cell, Temp, Wn}
@@ -12,9 +12,10 @@ use Rattle.c_lang.specs.declared.tree.Stmt.TheVariants.{Set, Load, Store, TakeW,
 abbrev pub with_temp : (ℕ → Bool) → ℕ → ℕ → Bool
 with_temp assigned k i = if k == i then true else assigned i
 
--- an expression whose parts stand inside at most n others: it reads named cells, assigned temporaries and `uq_wn`
+-- an expression whose parts stand inside at most n others: it reads numbers of 64 bits, named cells, assigned
+-- temporaries and `uq_wn`
 pub data Reads (named : ℕ → Bool) (temps : ℕ) (assigned : ℕ → Bool) : ℕ → CExpr → Type 0 where
-  number : {n : ℕ} (x : ℕ) → Reads named temps assigned n (Num x)
+  number : {n : ℕ} (x : ℕ) → x < 2 ^ 64 → Reads named temps assigned n (Num x)
   a_cell : {n : ℕ} (c : ℕ) → named c ≡ true → Reads named temps assigned n (Of (Cell c))
   a_temp : {n : ℕ} (k : ℕ) → k < temps → assigned k ≡ true → Reads named temps assigned n (Of (Temp k))
   count : {n : ℕ} → Reads named temps assigned n (Of Wn)

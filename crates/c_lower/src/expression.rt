@@ -7,7 +7,7 @@ ghost use Rattle.c_lower.specs.Code.{code, guarded};
 ghost use Rattle.c_lower.specs.Lowerable.{CanLower};
 
 use crate::formulas::{binary, bits, choose, sign_extended, temporary};
-use crate::operations::{binary_operator, divides, unary_operator, width_of_result};
+use crate::operations::{binary_operator, unary_operator};
 use c_lang::{CExpr, COp, Stmt, Var};
 use rtl_core::{Bin, Expr, Machine};
 use sqlite_items::Items;
@@ -78,7 +78,7 @@ fn width(machine: &Machine, e: &Expr) -> u8
         Expr::Cell(c) => machine.widths.as_slice()[*c as usize].bits(),
         Expr::Load(b, _) => 8 * *b,
         Expr::Un(_, a) => width(machine, a.get()),
-        Expr::Bin(op, a, _) => width_of_result(*op, width(machine, a.get())),
+        Expr::Bin(op, a, _) => op.width_of_result(width(machine, a.get())),
         Expr::Slice(_, lo, hi) => *hi + 1 - *lo,
         Expr::Zext(w, _) => w.bits(),
         Expr::Sext(w, _) => w.bits(),
@@ -110,7 +110,7 @@ fn guard_division(
 ) -> Result<(), AllocError>
     ensures { OnOk result (out.new ≡ out.old ++ guarded (is_division op) pc k []) }
 {
-    if divides(op) {
+    if op.divides() {
         let mut stop = Items::new(alloc);
         stop.push(Stmt::Stop(4, CExpr::Num(u64::from(pc))))?;
         let test = binary(alloc, COp::Eq, temporary(k), CExpr::Num(0))?;

@@ -1,6 +1,5 @@
 //! The C of the operators, over the temporaries `k` and `k + 1`.
 ghost use Rattle.std.specs.Prelude.{◌≡◌, ◌+◌, ◌<◌, ◌≤◌, IfOk};
-ghost use Rattle.rtl_core.specs.Arithmetic.{is_division, result_width};
 ghost use Rattle.c_lower.specs.Code.{temp};
 ghost use Rattle.c_lower.specs.Formula.{binary_c, unary_c, masked_c, is_plus_c, complement_c, size_c, same_sign_c, shifted_right_c};
 
@@ -11,23 +10,6 @@ use crate::formulas::{
 use c_lang::{CExpr, COp};
 use rtl_core::{Bin, Un};
 use std::alloc::{AllocError, Global};
-
-/// Whether an operator stops where its second operand is 0.
-pub(crate) fn divides(op: Bin) -> bool
-    ensures { result ≡ is_division op }
-{
-    matches!(op, Bin::DivU | Bin::DivS | Bin::RemU | Bin::RemS)
-}
-
-/// The width of an operator's result, from that of its operands.
-pub(crate) fn width_of_result(op: Bin, w: u8) -> u8
-    ensures { result ≡ result_width op w }
-{
-    match op {
-        Bin::Eq | Bin::Ne | Bin::LtU | Bin::LtS | Bin::LeU | Bin::LeS => 1,
-        _ => w,
-    }
-}
 
 /// The C of an operator of one operand, over the temporary `k`.
 #[tactic(auto, unfolding(crate::specs::Formula::unary_c))]

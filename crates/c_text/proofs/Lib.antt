@@ -1,10 +1,13 @@
 pub mod Separated
+pub mod WordTokens
+pub mod Gaps
 pub mod Written
 pub mod Examples
 pub mod Hex
-pub mod WordTokens
 pub mod Spelled
 pub mod Loops
+pub mod Lines
 pub mod Rows
+pub mod Parts
 pub mod Proper
 pub mod Whole

@@ -5,9 +5,11 @@ use Rattle.std.proofs.lemmas.List.{append-nil, take_all}
 use Rattle.edge_io.specs.Output.{Output}
 use Rattle.c_text.specs.Tokens.{Token}
 use Rattle.c_lang.specs.declared.tree.CSeg.{CSeg}
+use Rattle.c_lang.specs.Items.{Segment, segment_array}
 use Rattle.c_lang.specs.declared.tree.Var.TheVariants.{Temp}
 use Rattle.c_text.specs.Functions.{local_toks, temps_toks}
-use Rattle.c_text.specs.Items.{segment_toks, segments_toks}
+use Rattle.c_text.specs.Items.{item_toks}
+use Rattle.c_text.proofs.Parts.{segments_toks}
 use Rattle.c_text.specs.Output.{Wrote, Broke}
 use Rattle.c_text.proofs.Written.{wrote_both, broke_then, broke_here, wrote_as, broke_as}
 
@@ -59,6 +61,10 @@ broke_temp i n l a b =
     let r = temps_split 0 i n l in
     let e : i ≡ 0 + i = omega arith in
     broke_as r.1 (broke_then a (broke_here r.0 (broke_as (ap (λ j. local_toks (Temp j)) (sym e)) b)))
+
+-- the array of a segment
+abbrev segment_toks : ℕ → CSeg → List Token
+segment_toks k s = item_toks (Segment k (segment_array s))
 
 segments_next : (k : ℕ) (ss : List CSeg) (i : ℕ) (d : CSeg) → i < length ss → segments_toks k (take (i + 1) ss) ≡ segments_toks k (take i ss) ++ segment_toks (k + i) (get_or ss i d)
 segments_next k [] i d l = absurd (omega arith)

@@ -1,5 +1,5 @@
 -- Each token of a program has bytes, so there is a text of all of them, however little of it was written.
-use Rattle.std.proofs.Common.{◌≡◌, ℕ, ◌+◌, Bool, true, zero, suc, List, [], ◌∷◌, ◌++◌, length, map, Some, refl, sym, subst}
+use Rattle.std.proofs.Common.{◌≡◌, ℕ, ◌+◌, Bool, true, zero, suc, List, [], ◌∷◌, ◌++◌, map, Some, refl, sym, subst}
 use Rattle.std.specs.Prelude.{codes}
 use Rattle.std.specs.List.{list_all, flat_map}
 use Rattle.std.proofs.lemmas.Bool.{and_parts}
@@ -28,11 +28,13 @@ use Rattle.c_text.specs.Atoms.{is_name}
 use Rattle.c_text.specs.Expressions.{expr_toks, listed, op_sign, var_token}
 use Rattle.c_text.specs.Statements.{condition_toks, stmt_toks}
 use Rattle.c_text.specs.Blocks.{goto_toks, case_toks, switch_toks, default_toks, end_toks, block_toks}
-use Rattle.c_text.specs.Functions.{local_toks, temps_toks, typed_toks, head_toks, prototype_toks, body_toks, function_toks}
-use Rattle.c_text.specs.Items.{array_toks, machine_toks, machine_numbers, segment_toks, segments_toks, table_toks, or_zero, segment_numbers, main_toks, no_address, program_toks}
+use Rattle.c_text.specs.Functions.{local_toks, temps_toks, typed_toks, head_toks, body_toks, function_toks}
+use Rattle.c_lang.specs.Items.{Array, Prototype, whole, filled, segment_array, header_numbers, table_numbers, prototype_of}
+use Rattle.c_text.specs.Items.{array_toks, main_toks, no_address, program_toks}
+use Rattle.c_text.proofs.Parts.{machine_toks, segments_toks, table_toks, declared_toks, parts_toks, parts_are}
 use Rattle.c_text.proofs.Spelled.{toks-Num, toks-Of, toks-Bin, toks-Choose, toks-Set, toks-Load, toks-Store, toks-TakeW, toks-PutW, toks-Serve, toks-Call, toks-If, toks-Stop}
 use Rattle.c_text.proofs.WordTokens.{name_token, sign_token, any_digits, any_plain, any_long, decimal_words, hex_words, label_words}
-use Rattle.c_text.proofs.Written.{writes_word}
+use Rattle.c_text.proofs.Gaps.{writes_word}
 
 -- a name that is one, a sign that is one, or a number
 abbrev is_token : Token → Bool
@@ -61,7 +63,7 @@ has_text (t ∷ ts) h =
     let parts = and_parts (is_token t) (list_all is_token ts) h in
     let one = bytes_of t parts.0 in
     let behind = has_text ts parts.1 in
-    record { text = (one.0 ++ 32 ∷ []) ++ behind.text; writes = writes_both (writes_word 32 one.0 t refl one.1) behind.writes }
+    record { text = (one.0 ++ 32 ∷ []) ++ behind.text; writes = writes_both (writes_word one.0 (32 ∷ []) t refl one.1) behind.writes }
 
 both : (ts us : List Token) → Proper ts → Proper us → Proper (ts ++ us)
 both [] us h k = k
@@ -213,13 +215,13 @@ all_temps : (k n : ℕ) → Proper (temps_toks k n)
 all_temps k zero = refl
 all_temps k (suc n) = both (local_toks (Temp k)) (temps_toks (k + 1) n) (all_local (Temp k)) (all_temps (k + 1) n)
 
-all_head : (f : Function) → Proper (head_toks f)
-all_head f =
-    more (name (function_word f.entry)) (mark "(" ∷ (typed_toks Ra ++ (flat_map (λ i. mark "," ∷ typed_toks (Cell i)) f.params ++ mark ")" ∷ []))) (function_name f.entry)
-    (both (flat_map (λ i. mark "," ∷ typed_toks (Cell i)) f.params) (mark ")" ∷ []) (each (λ i. mark "," ∷ typed_toks (Cell i)) (λ i. one_var (Cell i)) f.params) refl)
+all_head : (p : Prototype) → Proper (head_toks p)
+all_head p =
+    more (name (function_word p.entry)) (mark "(" ∷ (typed_toks Ra ++ (flat_map (λ i. mark "," ∷ typed_toks (Cell i)) p.params ++ mark ")" ∷ []))) (function_name p.entry)
+    (both (flat_map (λ i. mark "," ∷ typed_toks (Cell i)) p.params) (mark ")" ∷ []) (each (λ i. mark "," ∷ typed_toks (Cell i)) (λ i. one_var (Cell i)) p.params) refl)
 
-all_prototype : (f : Function) → Proper (prototype_toks f)
-all_prototype f = both (head_toks f) (mark ";" ∷ []) (all_head f) refl
+all_prototype : (f : Function) → Proper (declared_toks f)
+all_prototype f = both (head_toks (prototype_of f)) (mark ";" ∷ []) (all_head (prototype_of f)) refl
 
 all_body : (f : Function) → Proper (body_toks f)
 all_body f =
@@ -227,20 +229,22 @@ all_body f =
     (both (temps_toks 0 f.temps) (flat_map block_toks f.blocks ++ mark "}" ∷ []) (all_temps 0 f.temps) (both (flat_map block_toks f.blocks) (mark "}" ∷ []) (each block_toks all_block f.blocks) refl))
 
 all_function : (f : Function) → Proper (function_toks f)
-all_function f = both (head_toks f) (body_toks f) (all_head f) (all_body f)
+all_function f = both (head_toks (prototype_of f)) (body_toks f) (all_head (prototype_of f)) (all_body f)
 
 all_numbers : (ns : List ℕ) → Proper (listed (λ n. plain n ∷ []) ns ++ mark "}" ∷ mark ";" ∷ [])
 all_numbers ns = both (listed (λ n. plain n ∷ []) ns) (mark "}" ∷ mark ";" ∷ []) (all_listed (λ n. plain n ∷ []) (λ n. refl) ns) refl
 
-abbrev array_rest : List ℕ → List Token
-array_rest ns = mark "[" ∷ plain (length ns) ∷ mark "]" ∷ mark "=" ∷ mark "{" ∷ (listed (λ n. plain n ∷ []) ns ++ mark "}" ∷ mark ";" ∷ [])
+abbrev array_rest : Array → List Token
+array_rest a = mark "[" ∷ plain a.declared ∷ mark "]" ∷ mark "=" ∷ mark "{" ∷ (listed (λ n. plain n ∷ []) a.numbers ++ mark "}" ∷ mark ";" ∷ [])
 
-all_array : (of_type named ns : List ℕ) → is_name of_type ≡ true → is_name named ≡ true → Proper (array_toks of_type named ns)
-all_array of_type named ns h k = more (name of_type) (name named ∷ array_rest ns) h (more (name named) (array_rest ns) k (all_numbers ns))
+all_array : (of_type named : List ℕ) (a : Array) → is_name of_type ≡ true → is_name named ≡ true → Proper (array_toks of_type named a)
+all_array of_type named a h k = more (name of_type) (name named ∷ array_rest a) h (more (name named) (array_rest a) k (all_numbers a.numbers))
 
 all_segments : (k : ℕ) (ss : List CSeg) → Proper (segments_toks k ss)
 all_segments k [] = refl
-all_segments k (s ∷ ss) = both (segment_toks k s) (segments_toks (k + 1) ss) (all_array (codes "u8") (segment_word k) (or_zero s.bytes) refl (decimal_words k)) (all_segments (k + 1) ss)
+all_segments k (s ∷ ss) =
+    let one = array_toks (codes "u8") (segment_word k) (segment_array s) in
+    both one (segments_toks (k + 1) ss) (all_array (codes "u8") (segment_word k) (segment_array s) refl (decimal_words k)) (all_segments (k + 1) ss)
 
 all_main : (entry : ℕ) (first : List ℕ) → Proper (main_toks entry first)
 all_main entry first =
@@ -248,18 +252,21 @@ all_main entry first =
     (both (flat_map (λ n. mark "," ∷ long n ∷ []) first) (mark ")" ∷ mark ";" ∷ mark "}" ∷ []) (each (λ n. mark "," ∷ long n ∷ []) (λ n. refl) first) refl)
 
 abbrev functions_rest : Program → List Token
-functions_rest p = flat_map prototype_toks p.functions ++ (flat_map function_toks p.functions ++ main_toks p.entry p.first)
+functions_rest p = flat_map declared_toks p.functions ++ (flat_map function_toks p.functions ++ main_toks p.entry p.first)
 
 all_functions : (p : Program) → Proper (functions_rest p)
 all_functions p =
-    both (flat_map prototype_toks p.functions) (flat_map function_toks p.functions ++ main_toks p.entry p.first) (each prototype_toks all_prototype p.functions)
+    both (flat_map declared_toks p.functions) (flat_map function_toks p.functions ++ main_toks p.entry p.first) (each declared_toks all_prototype p.functions)
     (both (flat_map function_toks p.functions) (main_toks p.entry p.first) (each function_toks all_function p.functions) (all_main p.entry p.first))
 
-all_program : (p : Program) → Proper (program_toks p)
-all_program p =
-    both (machine_toks p.header) (segments_toks 0 p.segments ++ (table_toks p.segments ++ functions_rest p)) (all_array (codes "u64") (codes "uq_machine") (machine_numbers p.header) refl refl)
+all_parts : (p : Program) → Proper (parts_toks p)
+all_parts p =
+    both (machine_toks p.header) (segments_toks 0 p.segments ++ (table_toks p.segments ++ functions_rest p)) (all_array (codes "u64") (codes "uq_machine") (whole (header_numbers p.header)) refl refl)
     (both (segments_toks 0 p.segments) (table_toks p.segments ++ functions_rest p) (all_segments 0 p.segments)
-    (both (table_toks p.segments) (functions_rest p) (all_array (codes "u64") (codes "uq_segs") (or_zero (flat_map segment_numbers p.segments)) refl refl) (all_functions p)))
+    (both (table_toks p.segments) (functions_rest p) (all_array (codes "u64") (codes "uq_segs") (filled (table_numbers p.segments)) refl refl) (all_functions p)))
+
+all_program : (p : Program) → Proper (program_toks p)
+all_program p = subst Proper (sym (parts_are p)) (all_parts p)
 
 -- there is a text of a program
 pub program_text : (p : Program) → HasText (program_toks p)

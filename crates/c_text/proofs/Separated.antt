@@ -40,7 +40,7 @@ no_number : (c : ℕ) (ds a b : List ℕ) → is_blank c ≡ true → number_of 
 no_number c ds [] b h = rw (unmatched is_ink c (codes "ull") [] b (ink c h) refl) refl
 no_number c ds (x ∷ a) b h = rw (unmatched is_ink c (codes "ull") (x ∷ a) b (ink c h) refl) refl
 
-digits_before : (c : ℕ) (a b : List ℕ) → is_ascii_digit c ≡ false → digit_count (a ++ c ∷ b) ≤ length a
+pub digits_before : (c : ℕ) (a b : List ℕ) → is_ascii_digit c ≡ false → digit_count (a ++ c ∷ b) ≤ length a
 digits_before c [] b h = rw h (omega arith)
 digits_before c (x ∷ a) b h = bounded (is_ascii_digit x) _ _ (digits_before c a b h)
   where
@@ -48,7 +48,7 @@ digits_before c (x ∷ a) b h = bounded (is_ascii_digit x) _ _ (digits_before c 
     bounded true n m l = omega arith
     bounded false n m l = omega arith
 
-three_ways : (p q : Bool) (x y z : Option Token) → x ≡ None → y ≡ None → z ≡ None → cond p x (cond q y z) ≡ None
+pub three_ways : (p q : Bool) (x y z : Option Token) → x ≡ None → y ≡ None → z ≡ None → cond p x (cond q y z) ≡ None
 three_ways true q x y z f g h = f
 three_ways false true x y z f g h = g
 three_ways false false x y z f g h = h

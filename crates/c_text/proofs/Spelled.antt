@@ -1,6 +1,7 @@
 -- How each kind of expression and statement is spelled, as equations.
 use Rattle.std.proofs.Common.{◌≡◌, ℕ, List, [], ◌∷◌, ◌++◌, sym, ap, ◌∙◌, rules, append_assoc}
 use Rattle.std.specs.List.{flat_map}
+use Rattle.std.proofs.lemmas.List.{append-nil}
 use Rattle.std.proofs.lemmas.List.Folds.{flat_map-map}
 use Rattle.c_lang.specs.declared.tree.COp.{COp}
 use Rattle.c_lang.specs.declared.tree.CExpr.{CExpr, fold-roll-CExpr, the_lemmas}
@@ -33,16 +34,37 @@ toks-Choose c a b = ap expr_toks (sym (rolls-Choose c a b)) ∙ fold-roll-CExpr 
 
 pub ruleset expr_laws = (toks-Num, toks-Of, toks-Bin, toks-Choose)
 
--- each part with the sign behind it
-pub bin_parts : (e : CExpr) (op : COp) (a b x y : CExpr) (s : List ℕ) → e ≡ Bin op a b → x ≡ a → s ≡ op_sign op → y ≡ b → expr_toks e ≡ mark "(" ∷ ((expr_toks x ++ sign s ∷ []) ++ (expr_toks y ++ mark ")" ∷ []))
-bin_parts e op a b x y s is left by right = rw (is, left, by, right) (toks-Bin op a b ∙ ap (λ ts. mark "(" ∷ ts) (sym (append_assoc (expr_toks a) (sign (op_sign op) ∷ []) (expr_toks b ++ mark ")" ∷ []))))
+-- a number and a variable, with what is behind it
+pub num_parts : (e : CExpr) (n : ℕ) (ts : List Token) → e ≡ Num n → expr_toks e ++ ts ≡ long n ∷ ts
+num_parts e n ts is = rw is (ap (λ us. us ++ ts) (toks-Num n))
 
-pub choose_parts : (e c a b z x y : CExpr) → e ≡ Choose c a b → z ≡ c → x ≡ a → y ≡ b → expr_toks e ≡ mark "(" ∷ ((expr_toks z ++ mark "?" ∷ []) ++ ((expr_toks x ++ mark ":" ∷ []) ++ (expr_toks y ++ mark ")" ∷ [])))
-choose_parts e c a b z x y is test left right =
+pub var_parts : (e : CExpr) (v : Var) (ts : List Token) → e ≡ Of v → expr_toks e ++ ts ≡ var_token v ∷ ts
+var_parts e v ts is = rw is (ap (λ us. us ++ ts) (toks-Of v))
+
+bin_regrouped : (a s b ts : List Token) → (mark "(" ∷ (a ++ (s ++ (b ++ mark ")" ∷ [])))) ++ ts ≡ mark "(" ∷ ((a ++ s) ++ (b ++ mark ")" ∷ ts))
+bin_regrouped a s b ts = simp append_assoc
+
+choose_regrouped : (c q a k b ts : List Token) → (mark "(" ∷ (c ++ (q ++ (a ++ (k ++ (b ++ mark ")" ∷ [])))))) ++ ts ≡ mark "(" ∷ ((c ++ q) ++ ((a ++ k) ++ (b ++ mark ")" ∷ ts)))
+choose_regrouped c q a k b ts = simp append_assoc
+
+-- each part with the sign behind it, and what is behind the last
+pub bin_parts : (e : CExpr) (op : COp) (a b x y : CExpr) (s : List ℕ) (ts : List Token) → e ≡ Bin op a b → x ≡ a → s ≡ op_sign op → y ≡ b
+    → expr_toks e ++ ts ≡ mark "(" ∷ ((expr_toks x ++ sign s ∷ []) ++ (expr_toks y ++ mark ")" ∷ ts))
+bin_parts e op a b x y s ts is left by right =
+    rw (is, left, by, right) (ap (λ us. us ++ ts) (toks-Bin op a b) ∙ bin_regrouped (expr_toks a) (sign (op_sign op) ∷ []) (expr_toks b) ts)
+
+pub choose_parts : (e c a b z x y : CExpr) (ts : List Token) → e ≡ Choose c a b → z ≡ c → x ≡ a → y ≡ b
+    → expr_toks e ++ ts ≡ mark "(" ∷ ((expr_toks z ++ mark "?" ∷ []) ++ ((expr_toks x ++ mark ":" ∷ []) ++ (expr_toks y ++ mark ")" ∷ ts)))
+choose_parts e c a b z x y ts is test left right =
     rw (is, test, left, right)
-    (toks-Choose c a b
-    ∙ ap (λ ts. mark "(" ∷ (expr_toks c ++ mark "?" ∷ ts)) (sym (append_assoc (expr_toks a) (mark ":" ∷ []) (expr_toks b ++ mark ")" ∷ [])))
-    ∙ ap (λ ts. mark "(" ∷ ts) (sym (append_assoc (expr_toks c) (mark "?" ∷ []) ((expr_toks a ++ mark ":" ∷ []) ++ (expr_toks b ++ mark ")" ∷ [])))))
+    (ap (λ us. us ++ ts) (toks-Choose c a b) ∙ choose_regrouped (expr_toks c) (mark "?" ∷ []) (expr_toks a) (mark ":" ∷ []) (expr_toks b) ts)
+
+-- an expression with a blank behind it, and then a sign; one with the sign that closes, and then more
+pub before_parts : (e : CExpr) (s : List ℕ) → expr_toks e ++ sign s ∷ [] ≡ (expr_toks e ++ []) ++ sign s ∷ []
+before_parts e s = ap (λ us. us ++ sign s ∷ []) (sym (append-nil (expr_toks e)))
+
+pub last_parts : (e : CExpr) (ts : List Token) → expr_toks e ++ mark ")" ∷ ts ≡ (expr_toks e ++ mark ")" ∷ []) ++ ts
+last_parts e ts = sym (append_assoc (expr_toks e) (mark ")" ∷ []) ts)
 
 pub toks-Set : (v : Var) (e : CExpr) → stmt_toks (Set v e) ≡ var_token v ∷ mark "=" ∷ (expr_toks e ++ mark ";" ∷ [])
 unfolding stmt_toks

@@ -1,18 +1,15 @@
 -- How what a sink took composes.
-use Rattle.std.proofs.Common.{subst, ◌≡◌, ℕ, ◌+◌, ◌≤◌, Bool, true, false, suc, List, [], ◌∷◌, ◌++◌, length, take, Option, Some, None, Ok, Err, refl, sym, ap, ◌∙◌, arith, append_assoc, length-append}
-use Rattle.std.proofs.lemmas.List.{append-nil, take-append-le, take_all, drop_all}
+use Rattle.std.proofs.Common.{subst, ◌≡◌, ℕ, ◌+◌, ◌≤◌, true, suc, List, [], ◌∷◌, ◌++◌, length, take, Option, Some, None, Ok, Err, refl, sym, ap, ◌∙◌, arith, append_assoc, length-append}
+use Rattle.std.proofs.lemmas.List.{append-nil, take-append-le}
 use Rattle.std.specs.Prelude.{Result, OnErr}
-use Rattle.scan.specs.Laws.{Writes}
-use Rattle.scan.specs.Scan.{lex, front, told}
-use Rattle.scan.proofs.Longest.{longest_is}
-use Rattle.scan.proofs.Steps.{lex_token}
-use Rattle.scan.proofs.Blanks.{writes_text, writes_nothing, writes_both}
+use Rattle.scan.proofs.Blanks.{writes_nothing, writes_both}
 use Rattle.edge_io.specs.Told.{followed}
 use Rattle.edge_io.specs.Counts.{Rose}
 use Rattle.edge_io.specs.Output.{Output, TookPart}
-use Rattle.c_text.specs.Tokens.{Token, token_of, word_token, is_blank}
+use Rattle.c_text.specs.Tokens.{Token, word_token}
 use Rattle.c_text.specs.Output.{Took, Wrote, Broke}
-use Rattle.c_text.proofs.Separated.{separated, no_token}
+use Rattle.c_text.specs.Gaps.{is_gap, ends_word, gap_toks}
+use Rattle.c_text.proofs.Gaps.{writes_gap, writes_word}
 
 followed_both : (told : Option (List ℕ)) (v w : List ℕ) → followed (followed told v) w ≡ followed told (v ++ w)
 followed_both None v w = refl
@@ -91,28 +88,20 @@ broke_at_one us f = broke_here us f
 pub broke_at_two : {o q : Output} {s t : Token} (us : List Token) → Broke o q (s ∷ t ∷ []) → Broke o q (s ∷ t ∷ us)
 broke_at_two us f = broke_here us f
 
--- a word and a blank are its token
-lex_word : (w : List ℕ) (t : Token) → word_token w ≡ Some t → lex token_of is_blank 0 w ≡ Ok (t ∷ [])
-unfolding word_token lex
-lex_word [] t e = cc
-lex_word (x ∷ w) t e = by (is_blank x) refl
-  where
-    whole : front token_of (x ∷ w) ≡ Some (length (x ∷ w), t)
-    whole = longest_is token_of (length (x ∷ w)) (length (x ∷ w)) (x ∷ w) t (omega arith) (omega arith) (ap word_token (take_all (length (x ∷ w)) (x ∷ w) (omega arith)) ∙ e) (λ k a b. absurd (omega arith))
+-- a gap was put, or a front of it
+pub wrote_gap : {o q : Output} (gap : List ℕ) → is_gap gap ≡ true → Took o q gap → Wrote o q (gap_toks gap)
+wrote_gap gap h f = record { text = gap; writes = writes_gap gap h; took = f }
 
-    by : (p : Bool) → is_blank x ≡ p → lex token_of is_blank 0 (x ∷ w) ≡ Ok (t ∷ [])
-    by true h = let none = no_token x [] w h in cc
-    by false h = lex_token token_of is_blank (x ∷ w) (length (x ∷ w)) t (omega arith) (omega arith) h whole ∙ ap (λ bs. told (t ∷ []) (lex token_of is_blank 0 bs)) (drop_all (length (x ∷ w)) (x ∷ w) (omega arith))
+pub broke_gap : {o q : Output} (gap : List ℕ) → is_gap gap ≡ true → TookPart o q gap → Broke o q (gap_toks gap)
+broke_gap gap h f = record { front = gap_toks gap; back = []; split = sym (append-nil (gap_toks gap)); text = gap; writes = writes_gap gap h; part = f }
 
-pub writes_word : (c : ℕ) (w : List ℕ) (t : Token) → is_blank c ≡ true → word_token w ≡ Some t → Writes token_of is_blank (w ++ c ∷ []) (t ∷ [])
-writes_word c w t h e = writes_text token_of is_blank separated c w (t ∷ []) h (lex_word w t e)
+-- a word and the gap behind it were put, or a front of them
+pub wrote_word : {o q : Output} {t : Token} (w gap : List ℕ) → ends_word gap ≡ true → word_token w ≡ Some t → Took o q (w ++ gap) → Wrote o q (t ∷ gap_toks gap)
+wrote_word {o} {q} {t} w gap h e f = record { text = w ++ gap; writes = writes_word w gap t h e; took = f }
 
--- a word and a blank were put, or a front of them
-pub wrote_word : {o q : Output} {t : Token} (w : List ℕ) (c : ℕ) → is_blank c ≡ true → word_token w ≡ Some t → Took o q (w ++ c ∷ []) → Wrote o q (t ∷ [])
-wrote_word {o} {q} {t} w c h e f = record { text = w ++ c ∷ []; writes = writes_word c w t h e; took = f }
-
-pub broke_word : {o q : Output} {t : Token} (w : List ℕ) (c : ℕ) → is_blank c ≡ true → word_token w ≡ Some t → TookPart o q (w ++ c ∷ []) → Broke o q (t ∷ [])
-broke_word {o} {q} {t} w c h e f = record { front = t ∷ []; back = []; split = refl; text = w ++ c ∷ []; writes = writes_word c w t h e; part = f }
+pub broke_word : {o q : Output} {t : Token} (w gap : List ℕ) → ends_word gap ≡ true → word_token w ≡ Some t → TookPart o q (w ++ gap) → Broke o q (t ∷ gap_toks gap)
+broke_word {o} {q} {t} w gap h e f =
+    record { front = t ∷ gap_toks gap; back = []; split = sym (append-nil (t ∷ gap_toks gap)); text = w ++ gap; writes = writes_word w gap t h e; part = f }
 
 -- the same tokens, written otherwise
 pub wrote_as : {o q : Output} {us ts : List Token} → us ≡ ts → Wrote o q ts → Wrote o q us

@@ -1,6 +1,7 @@
 -- How functions are spelled.
 use Rattle.std.specs.Prelude.{ℕ, zero, suc, ◌+◌, List, [], ◌∷◌, ◌++◌, flat_map}
 use Rattle.c_lang.specs.declared.tree.Function.{Function}
+use Rattle.c_lang.specs.Items.{Prototype, prototype_of}
 use Rattle.c_text.specs.Tokens.{Token, name, word, mark}
 use Rattle.c_lang.specs.declared.tree.Var.{Var}
 use Rattle.c_lang.specs.declared.tree.Var.TheVariants.{Ra, Pt, Cell, Temp}
@@ -22,13 +23,13 @@ temps_toks k zero = []
 temps_toks k (suc n) = local_toks (Temp k) ++ temps_toks (k + 1) n
 
 -- void f_X(u64 ra, u64 cI, ..)
-abbrev pub head_toks : Function → List Token
-head_toks f =
-    word "void" ∷ name (function_word f.entry) ∷ mark "(" ∷ (typed_toks Ra ++ (commas (λ i. typed_toks (Cell i)) f.params ++ mark ")" ∷ []))
+abbrev pub head_toks : Prototype → List Token
+head_toks p =
+    word "void" ∷ name (function_word p.entry) ∷ mark "(" ∷ (typed_toks Ra ++ (commas (λ i. typed_toks (Cell i)) p.params ++ mark ")" ∷ []))
 
--- the prototype, void f_X(u64 ra, u64 cI, ..);
-abbrev pub prototype_toks : Function → List Token
-prototype_toks f = head_toks f ++ mark ";" ∷ []
+-- void f_X(u64 ra, u64 cI, ..);
+abbrev pub prototype_toks : Prototype → List Token
+prototype_toks p = head_toks p ++ mark ";" ∷ []
 
 -- { u64 pt; u64 cJ; .. u64 tK; .. BLOCK .. }
 abbrev pub body_toks : Function → List Token
@@ -38,4 +39,4 @@ body_toks f =
 
 -- a function whole
 abbrev pub function_toks : Function → List Token
-function_toks f = head_toks f ++ body_toks f
+function_toks f = head_toks (prototype_of f) ++ body_toks f

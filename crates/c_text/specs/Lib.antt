@@ -1,5 +1,6 @@
 pub mod Tokens
 pub mod Words
+pub mod Gaps
 pub mod Expressions
 pub mod Statements
 pub mod Blocks

@@ -1,4 +1,4 @@
-// Blocks and their ends, put into a sink.
+// Blocks and their ends, put into a sink: a label at the margin, and four blanks before each statement.
 ghost use Rattle.std.specs.Prelude.{OnOk, OnErr, [], ◌∷◌, ◌++◌, flat_map};
 ghost use Rattle.c_text.specs.Blocks.{block_toks, case_toks, default_toks, end_toks, finish_toks, goto_toks, switch_toks};
 ghost use Rattle.c_text.specs.Output.{Wrote, Broke};
@@ -6,6 +6,7 @@ ghost use Rattle.c_text.specs.Tokens.{mark, name};
 ghost use Rattle.c_text.specs.Words.{label_word};
 
 use crate::atoms::{Atom, put_atoms};
+use crate::names::put_label;
 use crate::statements::put_stmts;
 use c_lang::{CBlock, CExpr, Case, End, Point};
 use edge_io::{Sink, WriteFault};
@@ -17,7 +18,11 @@ fn put_goto<K: Sink>(out: &mut K, to: Point) -> Result<(), WriteFault>
 {
     put_atoms(
         out,
-        &[Atom::Name(b"goto"), Atom::Label(to), Atom::Last(b";")],
+        &[
+            Atom::Gap(b"    "),
+            Atom::Name(b"goto", b" "),
+            Atom::Label(to, b";\n"),
+        ],
     )
 }
 
@@ -29,13 +34,10 @@ fn put_finish<K: Sink>(out: &mut K, number: u64, value: &CExpr) -> Result<(), Wr
     put_atoms(
         out,
         &[
-            Atom::Name(b"uq_end"),
-            Atom::Sign(b"("),
-            Atom::Plain(number),
-            Atom::Sign(b","),
-            Atom::Expr(value),
-            Atom::Sign(b")"),
-            Atom::Last(b";"),
+            Atom::Gap(b"    "),
+            Atom::Name(b"uq_end", b"("),
+            Atom::Plain(number, b", "),
+            Atom::Expr(value, b");\n"),
         ],
     )
 }
@@ -48,12 +50,11 @@ fn put_case<K: Sink>(out: &mut K, case: &Case) -> Result<(), WriteFault>
     put_atoms(
         out,
         &[
-            Atom::Name(b"case"),
-            Atom::Long(case.value),
-            Atom::Sign(b":"),
-            Atom::Name(b"goto"),
-            Atom::Label(case.to),
-            Atom::Last(b";"),
+            Atom::Gap(b"        "),
+            Atom::Name(b"case", b" "),
+            Atom::Long(case.value, b": "),
+            Atom::Name(b"goto", b" "),
+            Atom::Label(case.to, b";\n"),
         ],
     )
 }
@@ -77,11 +78,9 @@ fn put_switch_head<K: Sink>(out: &mut K, test: &CExpr) -> Result<(), WriteFault>
     put_atoms(
         out,
         &[
-            Atom::Name(b"switch"),
-            Atom::Sign(b"("),
-            Atom::Expr(test),
-            Atom::Sign(b")"),
-            Atom::Last(b"{"),
+            Atom::Gap(b"    "),
+            Atom::Name(b"switch", b" ("),
+            Atom::Expr(test, b") {\n"),
         ],
     )
 }
@@ -94,16 +93,11 @@ fn put_default<K: Sink>(out: &mut K, number: u64, value: &CExpr) -> Result<(), W
     put_atoms(
         out,
         &[
-            Atom::Name(b"default"),
-            Atom::Sign(b":"),
-            Atom::Name(b"uq_end"),
-            Atom::Sign(b"("),
-            Atom::Plain(number),
-            Atom::Sign(b","),
-            Atom::Expr(value),
-            Atom::Sign(b")"),
-            Atom::Last(b";"),
-            Atom::Last(b"}"),
+            Atom::Gap(b"        "),
+            Atom::Name(b"default", b": "),
+            Atom::Name(b"uq_end", b"("),
+            Atom::Plain(number, b", "),
+            Atom::Expr(value, b");\n    }\n"),
         ],
     )
 }
@@ -132,16 +126,13 @@ fn put_branch<K: Sink>(out: &mut K, test: &CExpr, to: Point, or_to: Point) -> Re
     put_atoms(
         out,
         &[
-            Atom::Name(b"if"),
-            Atom::Sign(b"("),
-            Atom::Expr(test),
-            Atom::Sign(b")"),
-            Atom::Name(b"goto"),
-            Atom::Label(to),
-            Atom::Last(b";"),
-            Atom::Name(b"goto"),
-            Atom::Label(or_to),
-            Atom::Last(b";"),
+            Atom::Gap(b"    "),
+            Atom::Name(b"if", b" ("),
+            Atom::Expr(test, b") "),
+            Atom::Name(b"goto", b" "),
+            Atom::Label(to, b";\n    "),
+            Atom::Name(b"goto", b" "),
+            Atom::Label(or_to, b";\n"),
         ],
     )
 }
@@ -151,7 +142,7 @@ fn put_return<K: Sink>(out: &mut K) -> Result<(), WriteFault>
     ensures wrote { OnOk result (Wrote (K.output out.old) (K.output out.new) (end_toks End.Return)) }
     ensures broke { OnErr result (Broke (K.output out.old) (K.output out.new) (end_toks End.Return)) }
 {
-    put_atoms(out, &[Atom::Name(b"return"), Atom::Last(b";")])
+    put_atoms(out, &[Atom::Gap(b"    "), Atom::Name(b"return", b";\n")])
 }
 
 /// Puts the end of a block.
@@ -175,10 +166,7 @@ fn put_block_label<K: Sink>(out: &mut K, label: Point) -> Result<(), WriteFault>
     ensures wrote { OnOk result (Wrote (K.output out.old) (K.output out.new) (name (label_word label) ∷ mark ":" ∷ mark ";" ∷ [])) }
     ensures broke { OnErr result (Broke (K.output out.old) (K.output out.new) (name (label_word label) ∷ mark ":" ∷ mark ";" ∷ [])) }
 {
-    put_atoms(
-        out,
-        &[Atom::Label(label), Atom::Sign(b":"), Atom::Last(b";")],
-    )
+    put_label(out, label, b": ;\n")
 }
 
 /// Puts a block.
@@ -187,7 +175,7 @@ fn put_block<K: Sink>(out: &mut K, block: &CBlock) -> Result<(), WriteFault>
     ensures broke { OnErr result (Broke (K.output out.old) (K.output out.new) (block_toks block.now)) }
 {
     put_block_label(out, block.label)?;
-    put_stmts(out, block.stmts.as_slice())?;
+    put_stmts(out, block.stmts.as_slice(), 1)?;
     put_end(out, &block.end)
 }
 

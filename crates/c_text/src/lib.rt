@@ -14,6 +14,3 @@ mod writer;
 
 pub use pieces::hex_of;
 pub use writer::write_c;
-
-#[cfg(test)]
-mod tests;

@@ -4,6 +4,7 @@ ghost use Rattle.std.specs.List.{list_all};
 ghost use Rattle.std.specs.Fmt.{decimal};
 ghost use Rattle.edge_io.specs.Output.{TookPart};
 ghost use Rattle.c_text.specs.Atoms.{is_name};
+ghost use Rattle.c_text.specs.Gaps.{ends_word, gap_toks};
 ghost use Rattle.c_text.specs.Expressions.{var_token};
 ghost use Rattle.c_text.specs.Output.{Took, Wrote, Broke};
 ghost use Rattle.c_text.specs.Tokens.{is_word, name};
@@ -16,41 +17,49 @@ use edge_io::{Sink, WriteFault};
 use itoa::Buffer;
 
 /// Puts a name of two pieces.
-fn put_joined<K: Sink>(out: &mut K, front: &[u8], back: &[u8]) -> Result<(), WriteFault>
+fn put_joined<K: Sink>(out: &mut K, front: &[u8], back: &[u8], gap: &[u8]) -> Result<(), WriteFault>
     requires front { is_name front.now ≡ true }
     requires back { list_all is_word back.now ≡ true }
-    ensures wrote { OnOk result (Wrote (K.output out.old) (K.output out.new) (name (front.now ++ back.now) ∷ [])) }
-    ensures broke { OnErr result (Broke (K.output out.old) (K.output out.new) (name (front.now ++ back.now) ∷ [])) }
+    requires gap { ends_word gap.now ≡ true }
+    ensures wrote { OnOk result (Wrote (K.output out.old) (K.output out.new) (name (front.now ++ back.now) ∷ gap_toks gap.now)) }
+    ensures broke { OnErr result (Broke (K.output out.old) (K.output out.new) (name (front.now ++ back.now) ∷ gap_toks gap.now)) }
 {
     put_both(out, front, back)?;
-    put_bytes(out, b" ")
+    put_bytes(out, gap)
 }
 
 /// Puts a name that ends with a number.
-fn put_numbered<K: Sink>(out: &mut K, front: &[u8], number: u64) -> Result<(), WriteFault>
-    requires { is_name front.now ≡ true }
-    ensures wrote { OnOk result (Wrote (K.output out.old) (K.output out.new) (name (front.now ++ decimal number) ∷ [])) }
-    ensures broke { OnErr result (Broke (K.output out.old) (K.output out.new) (name (front.now ++ decimal number) ∷ [])) }
+fn put_numbered<K: Sink>(
+    out: &mut K,
+    front: &[u8],
+    number: u64,
+    gap: &[u8],
+) -> Result<(), WriteFault>
+    requires front { is_name front.now ≡ true }
+    requires gap { ends_word gap.now ≡ true }
+    ensures wrote { OnOk result (Wrote (K.output out.old) (K.output out.new) (name (front.now ++ decimal number) ∷ gap_toks gap.now)) }
+    ensures broke { OnErr result (Broke (K.output out.old) (K.output out.new) (name (front.now ++ decimal number) ∷ gap_toks gap.now)) }
 {
     let mut buffer = Buffer::new();
-    put_joined(out, front, buffer.format(number).as_bytes())
+    put_joined(out, front, buffer.format(number).as_bytes(), gap)
 }
 
 /// Puts the name of a variable.
-pub fn put_variable<K: Sink>(out: &mut K, variable: Var) -> Result<(), WriteFault>
-    ensures wrote { OnOk result (Wrote (K.output out.old) (K.output out.new) (var_token variable ∷ [])) }
-    ensures broke { OnErr result (Broke (K.output out.old) (K.output out.new) (var_token variable ∷ [])) }
+pub fn put_variable<K: Sink>(out: &mut K, variable: Var, gap: &[u8]) -> Result<(), WriteFault>
+    requires { ends_word gap.now ≡ true }
+    ensures wrote { OnOk result (Wrote (K.output out.old) (K.output out.new) (var_token variable ∷ gap_toks gap.now)) }
+    ensures broke { OnErr result (Broke (K.output out.old) (K.output out.new) (var_token variable ∷ gap_toks gap.now)) }
 {
     match variable {
-        Var::Ra => put_name(out, b"ra"),
-        Var::Pt => put_name(out, b"pt"),
-        Var::Cell(place) => put_numbered(out, b"c", u64::from(place)),
-        Var::Temp(place) => put_numbered(out, b"t", u64::from(place)),
-        Var::Result(place) => put_numbered(out, b"q", u64::from(place)),
-        Var::Wn => put_name(out, b"uq_wn"),
-        Var::Depth => put_name(out, b"uq_depth"),
-        Var::ServeR => put_name(out, b"uq_r"),
-        Var::ServeE => put_name(out, b"uq_e"),
+        Var::Ra => put_name(out, b"ra", gap),
+        Var::Pt => put_name(out, b"pt", gap),
+        Var::Cell(place) => put_numbered(out, b"c", u64::from(place), gap),
+        Var::Temp(place) => put_numbered(out, b"t", u64::from(place), gap),
+        Var::Result(place) => put_numbered(out, b"q", u64::from(place), gap),
+        Var::Wn => put_name(out, b"uq_wn", gap),
+        Var::Depth => put_name(out, b"uq_depth", gap),
+        Var::ServeR => put_name(out, b"uq_r", gap),
+        Var::ServeE => put_name(out, b"uq_e", gap),
     }
 }
 
@@ -79,27 +88,30 @@ fn put_call_slot<K: Sink>(out: &mut K, target: u32, back: u32) -> Result<(), Wri
 }
 
 /// Puts the label of a point.
-pub fn put_label<K: Sink>(out: &mut K, point: Point) -> Result<(), WriteFault>
-    ensures wrote { OnOk result (Wrote (K.output out.old) (K.output out.new) (name (label_word point) ∷ [])) }
-    ensures broke { OnErr result (Broke (K.output out.old) (K.output out.new) (name (label_word point) ∷ [])) }
+pub fn put_label<K: Sink>(out: &mut K, point: Point, gap: &[u8]) -> Result<(), WriteFault>
+    requires { ends_word gap.now ≡ true }
+    ensures wrote { OnOk result (Wrote (K.output out.old) (K.output out.new) (name (label_word point) ∷ gap_toks gap.now)) }
+    ensures broke { OnErr result (Broke (K.output out.old) (K.output out.new) (name (label_word point) ∷ gap_toks gap.now)) }
 {
     put_both(out, b"L_", &hex_of(point.pc))?;
     put_slot(out, point.slot)?;
-    put_bytes(out, b" ")
+    put_bytes(out, gap)
 }
 
 /// Puts the name of the function of an address.
-pub fn put_function<K: Sink>(out: &mut K, entry: u32) -> Result<(), WriteFault>
-    ensures wrote { OnOk result (Wrote (K.output out.old) (K.output out.new) (name (function_word entry) ∷ [])) }
-    ensures broke { OnErr result (Broke (K.output out.old) (K.output out.new) (name (function_word entry) ∷ [])) }
+pub fn put_function<K: Sink>(out: &mut K, entry: u32, gap: &[u8]) -> Result<(), WriteFault>
+    requires { ends_word gap.now ≡ true }
+    ensures wrote { OnOk result (Wrote (K.output out.old) (K.output out.new) (name (function_word entry) ∷ gap_toks gap.now)) }
+    ensures broke { OnErr result (Broke (K.output out.old) (K.output out.new) (name (function_word entry) ∷ gap_toks gap.now)) }
 {
-    put_joined(out, b"f_", &hex_of(entry))
+    put_joined(out, b"f_", &hex_of(entry), gap)
 }
 
 /// Puts the name of a segment's bytes, by the segment's place.
-pub fn put_segment<K: Sink>(out: &mut K, place: u64) -> Result<(), WriteFault>
-    ensures wrote { OnOk result (Wrote (K.output out.old) (K.output out.new) (name (segment_word place) ∷ [])) }
-    ensures broke { OnErr result (Broke (K.output out.old) (K.output out.new) (name (segment_word place) ∷ [])) }
+pub fn put_segment<K: Sink>(out: &mut K, place: u64, gap: &[u8]) -> Result<(), WriteFault>
+    requires { ends_word gap.now ≡ true }
+    ensures wrote { OnOk result (Wrote (K.output out.old) (K.output out.new) (name (segment_word place) ∷ gap_toks gap.now)) }
+    ensures broke { OnErr result (Broke (K.output out.old) (K.output out.new) (name (segment_word place) ∷ gap_toks gap.now)) }
 {
-    put_numbered(out, b"uq_seg_", place)
+    put_numbered(out, b"uq_seg_", place, gap)
 }

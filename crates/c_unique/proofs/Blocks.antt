@@ -1,5 +1,5 @@
 -- The tokens of a block determine it, and where it ends.
-use Rattle.std.proofs.Common.{◌≡◌, ℕ, ◌<◌, ◌^◌, List, ◌∷◌, ◌++◌, drop, refl, sym, ap, ◌∙◌, subst, arith, append_assoc}
+use Rattle.std.proofs.Common.{◌≡◌, ℕ, ◌<◌, List, ◌∷◌, ◌++◌, drop, refl, sym, ap, ◌∙◌, arith, append_assoc}
 use Rattle.std.specs.List.{flat_map}
 use Rattle.rtl_core.specs.declared.point.Point.{Point}
 use Rattle.c_lang.specs.declared.tree.Case.{Case}
@@ -14,13 +14,15 @@ use Rattle.c_text.specs.Words.{label_word}
 use Rattle.c_text.specs.Expressions.{expr_toks}
 use Rattle.c_text.specs.Statements.{stmt_toks}
 use Rattle.c_text.specs.Blocks.{case_toks, end_toks, block_toks}
-use Rattle.c_unique.specs.NamedNumbers.{expr_number, node_stmt_number, stmt_number, case_number, end_number, block_number}
+use Rattle.c_lang.specs.Spellable.{node_stmt_misfits, stmt_misfits, case_misfits, end_misfits, StmtHasForm, BlockHasForm}
+use Rattle.std.specs.List.{All}
+use Rattle.std.proofs.lemmas.List.Elements.{All-weaker}
 use Rattle.c_unique.proofs.Alike.{Alike}
 use Rattle.c_unique.proofs.Names.{label_same}
-use Rattle.c_unique.proofs.Rows.{each_all, Sure, row_same}
-use Rattle.c_unique.proofs.Expressions.{expr_same}
+use Rattle.c_unique.proofs.Rows.{each_all, each_in, each_fits, Sure, row_same}
+use Rattle.c_unique.proofs.Expressions.{ExprFits, expr_same}
 use Rattle.c_unique.proofs.FirstTokens.{kind}
-use Rattle.c_unique.proofs.Statements.{spell_stmt, spelled_stmt, stmt_kind, has_kind, stmt_by_form, SureStmt, stmt_same, number_by_form}
+use Rattle.c_unique.proofs.Statements.{spell_stmt, spelled_stmt, stmt_kind, has_kind, stmt_by_form, StmtFits, SureStmt, stmt_same, misfits_by_form}
 
 -- the tokens behind `default`
 abbrev default_rest : ℕ → CExpr → List Token → List Token
@@ -58,17 +60,21 @@ end_has_kind (Switch e cases n value) r = refl
 end_has_kind Return r = refl
 end_has_kind (Finish n e) r = refl
 
-case_same : (c : Case) → Sure case_toks case_number c
+-- each number of a case has few enough bits
+abbrev CaseFits : Case → Type 0
+CaseFits c = case_misfits c ≡ 0
+
+case_same : (c : Case) → Sure case_toks CaseFits c
 case_same c d r s h k e =
     let values : c.value ≡ d.value = cc in
     let names : label_word c.to ≡ label_word d.to = cc in
-    let labels = label_same c.to d.to h k names in
+    let labels = label_same c.to d.to (omega arith) (omega arith) names in
     record { same = λ i. record { value = values i; to = labels i }; rest = ap (drop 6) e }
 
-no_case : (ts : List Token) (c : Case) (t : List Token) → case_number c < 2 ^ 32 → case_toks c ++ t ≡ word "default" ∷ ts → ⊥
+no_case : (ts : List Token) (c : Case) (t : List Token) → CaseFits c → case_toks c ++ t ≡ word "default" ∷ ts → ⊥
 no_case ts c t h e = cc
 
-spelled_same : (a b : End) (r s : List Token) → end_number a < 2 ^ 32 → end_number b < 2 ^ 32 → end_kind a ≡ end_kind b → spell_end a r ≡ spell_end b s → Alike a b r s
+spelled_same : (a b : End) (r s : List Token) → end_misfits a ≡ 0 → end_misfits b ≡ 0 → end_kind a ≡ end_kind b → spell_end a r ≡ spell_end b s → Alike a b r s
 spelled_same (Goto p) (Goto q) r s h k t e =
     let names : label_word p ≡ label_word q = cc in
     let labels = label_same p q h k names in
@@ -85,8 +91,8 @@ spelled_same (Branch a p u) (Branch b q v) r s h k t e =
 spelled_same (Switch a cs n x) (Switch b ds m y) r s h k t e =
     let one = expr_same a b (mark ")" ∷ mark "{" ∷ (flat_map case_toks cs ++ word "default" ∷ default_rest n x r)) (mark ")" ∷ mark "{" ∷ (flat_map case_toks ds ++ word "default" ∷ default_rest m y s))
     (omega arith) (omega arith) (ap (drop 2) e) in
-    let all = row_same case_toks case_number cs ds (word "default" ∷ default_rest n x r) (word "default" ∷ default_rest m y s) (each_all (Sure case_toks case_number) case_same cs)
-    (no_case (default_rest n x r)) (no_case (default_rest m y s)) (omega arith) (omega arith) (ap (drop 2) one.rest) in
+    let all = row_same case_toks CaseFits cs ds (word "default" ∷ default_rest n x r) (word "default" ∷ default_rest m y s) (each_all (Sure case_toks CaseFits) case_same cs)
+    (no_case (default_rest n x r)) (no_case (default_rest m y s)) (each_fits case_misfits cs (omega arith)) (each_fits case_misfits ds (omega arith)) (ap (drop 2) one.rest) in
     let behind = all.rest in
     let numbers : n ≡ m = cc in
     let two = expr_same x y (mark ")" ∷ mark ";" ∷ mark "}" ∷ r) (mark ")" ∷ mark ";" ∷ mark "}" ∷ s) (omega arith) (omega arith) (ap (drop 6) behind) in
@@ -94,11 +100,11 @@ spelled_same (Switch a cs n x) (Switch b ds m y) r s h k t e =
 spelled_same Return Return r s h k t e = record { same = refl; rest = ap (drop 2) e }
 spelled_same (Finish n a) (Finish m b) r s h k t e =
     let numbers : n ≡ m = cc in
-    let one = expr_same a b (mark ")" ∷ mark ";" ∷ r) (mark ")" ∷ mark ";" ∷ s) h k (ap (drop 4) e) in
+    let one = expr_same a b (mark ")" ∷ mark ";" ∷ r) (mark ")" ∷ mark ";" ∷ s) (omega arith) (omega arith) (ap (drop 4) e) in
     record { same = λ i. Finish (numbers i) (one.same i); rest = ap (drop 2) one.rest }
 spelled_same a b r s _ _ t _ = absurd (omega (arith, t))
 
-end_same : (a b : End) (r s : List Token) → end_number a < 2 ^ 32 → end_number b < 2 ^ 32 → end_toks a ++ r ≡ end_toks b ++ s → Alike a b r s
+end_same : (a b : End) (r s : List Token) → end_misfits a ≡ 0 → end_misfits b ≡ 0 → end_toks a ++ r ≡ end_toks b ++ s → Alike a b r s
 end_same a b r s h k e =
     let forms : spell_end a r ≡ spell_end b s = sym (spelled_end a r) ∙ e ∙ spelled_end b s in
     spelled_same a b r s h k (sym (end_has_kind a r) ∙ ap kind forms ∙ end_has_kind b s) forms
@@ -115,7 +121,7 @@ below_ends (Stmt-F.Call f es) = omega arith
 below_ends (Stmt-F.If e inner) = omega arith
 below_ends (Stmt-F.Stop n e) = omega arith
 
-no_form_branches : (z : Stmt-F Stmt) (b : CExpr) (p q : Point) (t r : List Token) → node_stmt_number (map-Stmt Stmt ℕ stmt_number z) < 2 ^ 32 → expr_number b < 2 ^ 32 → stmt_kind z ≡ 8
+no_form_branches : (z : Stmt-F Stmt) (b : CExpr) (p q : Point) (t r : List Token) → node_stmt_misfits (map-Stmt Stmt ℕ stmt_misfits z) ≡ 0 → ExprFits b → stmt_kind z ≡ 8
     → spell_stmt z t ≡ spell_end (Branch b p q) r → ⊥
 no_form_branches (Stmt-F.If a xs) b p q t r h k kinds e =
     let one = expr_same a b (mark ")" ∷ mark "{" ∷ (flat_map stmt_toks xs ++ mark "}" ∷ t)) (mark ")" ∷ word "goto" ∷ name (label_word p) ∷ mark ";" ∷ word "goto" ∷ name (label_word q) ∷ mark ";" ∷ r)
@@ -124,7 +130,7 @@ no_form_branches (Stmt-F.If a xs) b p q t r h k kinds e =
     cc
 no_form_branches z b p q t r _ _ kinds _ = omega (arith, kinds)
 
-no_form_ends : (z : Stmt-F Stmt) (x : End) (t r : List Token) → node_stmt_number (map-Stmt Stmt ℕ stmt_number z) < 2 ^ 32 → end_number x < 2 ^ 32 → stmt_kind z ≡ end_kind x
+no_form_ends : (z : Stmt-F Stmt) (x : End) (t r : List Token) → node_stmt_misfits (map-Stmt Stmt ℕ stmt_misfits z) ≡ 0 → end_misfits x ≡ 0 → stmt_kind z ≡ end_kind x
     → spell_stmt z t ≡ spell_end x r → ⊥
 no_form_ends z (Branch b p q) t r h k kinds e = no_form_branches z b p q t r h (omega arith) kinds e
 no_form_ends z (Goto to) t r _ _ kinds _ = let below = below_ends z in omega (arith, kinds, below)
@@ -132,18 +138,22 @@ no_form_ends z (Switch e cases n value) t r _ _ kinds _ = let below = below_ends
 no_form_ends z Return t r _ _ kinds _ = let below = below_ends z in omega (arith, kinds, below)
 no_form_ends z (Finish n e) t r _ _ kinds _ = let below = below_ends z in omega (arith, kinds, below)
 
-no_stmt_ends : (x : End) (r : List Token) → end_number x < 2 ^ 32 → (s : Stmt) (t : List Token) → stmt_number s < 2 ^ 32 → stmt_toks s ++ t ≡ end_toks x ++ r → ⊥
-no_stmt_ends x r k s t = stmt_by_form (λ s. stmt_number s < 2 ^ 32 → stmt_toks s ++ t ≡ end_toks x ++ r → ⊥)
+no_stmt_ends : (x : End) (r : List Token) → end_misfits x ≡ 0 → (s : Stmt) (t : List Token) → StmtFits s → stmt_toks s ++ t ≡ end_toks x ++ r → ⊥
+no_stmt_ends x r k s t = stmt_by_form (λ s. StmtFits s → stmt_toks s ++ t ≡ end_toks x ++ r → ⊥)
     (λ z h e.
     let forms : spell_stmt z t ≡ spell_end x r = sym (spelled_stmt z t) ∙ e ∙ spelled_end x r in
-    no_form_ends z x t r (subst (λ n. n < 2 ^ 32) (number_by_form z) h) k (sym (has_kind z t) ∙ ap kind forms ∙ end_has_kind x r) forms) s
+    no_form_ends z x t r (sym (misfits_by_form z) ∙ h) k (sym (has_kind z t) ∙ ap kind forms ∙ end_has_kind x r) forms) s
 
-pub block_same : (b : CBlock) → Sure block_toks block_number b
+-- the numbers of statements that have a form
+numbers_of : (ss : List Stmt) → All StmtHasForm ss → All StmtFits ss
+numbers_of ss h = All-weaker StmtHasForm StmtFits (λ s h. h.numbers) ss h
+
+pub block_same : (b : CBlock) → Sure block_toks BlockHasForm b
 block_same a b r s h k e =
     let names : label_word a.label ≡ label_word b.label = cc in
-    let labels = label_same a.label b.label (omega arith) (omega arith) names in
-    let all = row_same stmt_toks stmt_number a.stmts b.stmts (end_toks a.end ++ r) (end_toks b.end ++ s) (each_all SureStmt stmt_same a.stmts)
-    (no_stmt_ends a.end r (omega arith)) (no_stmt_ends b.end s (omega arith)) (omega arith) (omega arith)
+    let labels = label_same a.label b.label h.label k.label names in
+    let all = row_same stmt_toks StmtFits a.stmts b.stmts (end_toks a.end ++ r) (end_toks b.end ++ s) (each_all SureStmt stmt_same a.stmts)
+    (no_stmt_ends a.end r h.end_numbers) (no_stmt_ends b.end s k.end_numbers) (each_in StmtFits a.stmts (numbers_of a.stmts h.stmts)) (each_in StmtFits b.stmts (numbers_of b.stmts k.stmts))
     (sym (append_assoc (flat_map stmt_toks a.stmts) (end_toks a.end) r) ∙ ap (drop 3) e ∙ append_assoc (flat_map stmt_toks b.stmts) (end_toks b.end) s) in
-    let last = end_same a.end b.end r s (omega arith) (omega arith) all.rest in
+    let last = end_same a.end b.end r s h.end_numbers k.end_numbers all.rest in
     record { same = λ i. record { label = labels i; stmts = all.same i; end = last.same i }; rest = last.rest }

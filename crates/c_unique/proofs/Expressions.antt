@@ -1,12 +1,12 @@
 -- The tokens of an expression determine it, and where it ends.
-use Rattle.std.proofs.Common.{◌≡◌, ℕ, ◌<◌, ◌^◌, List, ◌∷◌, ◌++◌, drop, refl, sym, ap, ◌∙◌, subst, arith, append_assoc}
+use Rattle.std.proofs.Common.{◌≡◌, ℕ, List, ◌∷◌, ◌++◌, drop, refl, sym, ap, ◌∙◌, subst, arith, append_assoc}
 use Rattle.std.specs.Prelude.{codes}
 use Rattle.c_lang.specs.declared.tree.CExpr.{CExpr, ind-CExpr, roll-CExpr, map-CExpr, fold-roll-CExpr}
 use Rattle.c_lang.specs.declared.tree.CExpr.TheOpen.{CExpr-F}
 use Rattle.c_text.specs.Tokens.{Token, long, sign, mark}
 use Rattle.c_text.specs.Words.{var_word}
 use Rattle.c_text.specs.Expressions.{expr_toks, node_toks, op_sign, var_token}
-use Rattle.c_unique.specs.NamedNumbers.{node_number, expr_number}
+use Rattle.c_lang.specs.Spellable.{node_misfits, expr_misfits}
 use Rattle.c_unique.proofs.Alike.{Alike}
 use Rattle.c_unique.proofs.Names.{var_same, op_same, no_question}
 use Rattle.c_unique.proofs.Rows.{Sure}
@@ -22,9 +22,9 @@ toks_by_form : (x : CExpr-F CExpr) → expr_toks (roll-CExpr x) ≡ node_toks (m
 unfolding expr_toks
 toks_by_form x = fold-roll-CExpr (List Token) node_toks x
 
-number_by_form : (x : CExpr-F CExpr) → expr_number (roll-CExpr x) ≡ node_number (map-CExpr CExpr ℕ expr_number x)
-unfolding expr_number
-number_by_form x = fold-roll-CExpr ℕ node_number x
+misfits_by_form : (x : CExpr-F CExpr) → expr_misfits (roll-CExpr x) ≡ node_misfits (map-CExpr CExpr ℕ expr_misfits x)
+unfolding expr_misfits
+misfits_by_form x = fold-roll-CExpr ℕ node_misfits x
 
 regrouped : (x : CExpr-F CExpr) (r : List Token) → node_toks (map-CExpr CExpr (List Token) expr_toks x) ++ r ≡ spell x r
 regrouped (CExpr-F.Num n) r = refl
@@ -35,8 +35,12 @@ regrouped (CExpr-F.Choose c a b) r = simp append_assoc
 pub spelled : (x : CExpr-F CExpr) (r : List Token) → expr_toks (roll-CExpr x) ++ r ≡ spell x r
 spelled x r = ap (λ ts. ts ++ r) (toks_by_form x) ∙ regrouped x r
 
+-- each number of an expression has few enough bits
+abbrev pub ExprFits : CExpr → Type 0
+ExprFits e = expr_misfits e ≡ 0
+
 abbrev pub SureExpr : CExpr → Type 0
-SureExpr e = Sure expr_toks expr_number e
+SureExpr e = Sure expr_toks ExprFits e
 
 -- the parts are determined
 abbrev SureParts : CExpr-F CExpr → Type 0
@@ -45,11 +49,11 @@ SureParts (CExpr-F.Of v) = Unit {0}
 SureParts (CExpr-F.Bin op a b) = SureExpr a × SureExpr b
 SureParts (CExpr-F.Choose c a b) = SureExpr c × SureExpr a × SureExpr b
 
-abbrev number_of : CExpr-F CExpr → ℕ
-number_of x = node_number (map-CExpr CExpr ℕ expr_number x)
+abbrev misfits_of : CExpr-F CExpr → ℕ
+misfits_of x = node_misfits (map-CExpr CExpr ℕ expr_misfits x)
 
 -- by the forms of both
-forms_same : (x z : CExpr-F CExpr) (r s : List Token) → SureParts x → number_of x < 2 ^ 32 → number_of z < 2 ^ 32 → spell x r ≡ spell z s → Alike (roll-CExpr x) (roll-CExpr z) r s
+forms_same : (x z : CExpr-F CExpr) (r s : List Token) → SureParts x → misfits_of x ≡ 0 → misfits_of z ≡ 0 → spell x r ≡ spell z s → Alike (roll-CExpr x) (roll-CExpr z) r s
 forms_same (CExpr-F.Num n) (CExpr-F.Num m) r s sure h k e = let p : n ≡ m = cc in record { same = ap (λ i. roll-CExpr (CExpr-F.Num i)) p; rest = cc }
 forms_same (CExpr-F.Of v) (CExpr-F.Of w) r s sure h k e =
     let p : var_word v ≡ var_word w = cc in
@@ -83,8 +87,8 @@ pub by_form : (P : CExpr → Type 0) → ((z : CExpr-F CExpr) → P (roll-CExpr 
 by_form P f = ind-CExpr P (λ x y e. let Q : CExpr-F CExpr → Type 0 = λ z. P (roll-CExpr z) in subst Q e (f (map-CExpr _ CExpr (λ e. e.0) y)))
 
 rolled_sure : (x : CExpr-F CExpr) → SureParts x → SureExpr (roll-CExpr x)
-rolled_sure x sure = by_form (λ b. (r s : List Token) → expr_number (roll-CExpr x) < 2 ^ 32 → expr_number b < 2 ^ 32 → expr_toks (roll-CExpr x) ++ r ≡ expr_toks b ++ s → Alike (roll-CExpr x) b r s)
-    (λ z r s h k e. forms_same x z r s sure (subst (λ n. n < 2 ^ 32) (number_by_form x) h) (subst (λ n. n < 2 ^ 32) (number_by_form z) k) (sym (spelled x r) ∙ e ∙ spelled z s))
+rolled_sure x sure = by_form (λ b. (r s : List Token) → ExprFits (roll-CExpr x) → ExprFits b → expr_toks (roll-CExpr x) ++ r ≡ expr_toks b ++ s → Alike (roll-CExpr x) b r s)
+    (λ z r s h k e. forms_same x z r s sure (sym (misfits_by_form x) ∙ h) (sym (misfits_by_form z) ∙ k) (sym (spelled x r) ∙ e ∙ spelled z s))
 
 parts_sure : (y : CExpr-F ((e : CExpr) × SureExpr e)) → SureParts (map-CExpr _ CExpr (λ e. e.0) y)
 parts_sure (CExpr-F.Num n) = tt

@@ -9,12 +9,12 @@ use Rattle.c_lang.specs.declared.tree.COp.{COp}
 use Rattle.c_lang.specs.declared.tree.COp.TheVariants.{Add, Sub, Mul, Div, Rem, And, Or, Xor, Shl, Shr, Eq, Ne, Lt, Le}
 use Rattle.c_lang.specs.declared.tree.Var.{Var}
 use Rattle.c_lang.specs.declared.tree.Var.TheVariants.{Ra, Pt, Cell, Temp, Result, Wn, Depth, ServeR, ServeE}
-use Rattle.c_lang.specs.Spellable.{largest}
+use Rattle.c_lang.specs.Spellable.{var_misfits, slot_misfits, point_misfits}
+use Rattle.c_lang.proofs.SpellingLaws.{has_bits}
 use Rattle.c_text.specs.Tokens.{Token, plain, word_token}
 use Rattle.c_text.specs.Words.{hex, var_word, slot_word, label_word, function_word}
 use Rattle.c_text.specs.Expressions.{op_sign}
 use Rattle.c_text.proofs.WordTokens.{plain_token}
-use Rattle.c_unique.specs.NamedNumbers.{var_number, slot_numbers, point_number}
 use Rattle.c_unique.proofs.Digits.{hex_same}
 
 -- ---- variables
@@ -39,18 +39,18 @@ abbrev var_of : List ℕ → Var
 var_of [] = Ra
 var_of (b ∷ w) = lettered b w
 
-var_back : (v : Var) → var_number v < 2 ^ 32 → var_of (var_word v) ≡ v
+var_back : (v : Var) → var_misfits v ≡ 0 → var_of (var_word v) ≡ v
 var_back Ra h = refl
 var_back Pt h = refl
-var_back (Cell i) h = ap (λ t. Cell (number_in t)) (plain_token i (omega arith))
-var_back (Temp k) h = ap (λ t. Temp (number_in t)) (plain_token k (omega arith))
-var_back (Result i) h = ap (λ t. Result (number_in t)) (plain_token i (omega arith))
+var_back (Cell i) h = ap (λ t. Cell (number_in t)) (plain_token i (omega (arith, has_bits 8 i h)))
+var_back (Temp k) h = ap (λ t. Temp (number_in t)) (plain_token k (omega (arith, has_bits 16 k h)))
+var_back (Result i) h = ap (λ t. Result (number_in t)) (plain_token i (omega (arith, has_bits 8 i h)))
 var_back Wn h = refl
 var_back Depth h = refl
 var_back ServeR h = refl
 var_back ServeE h = refl
 
-pub var_same : (v w : Var) → var_number v < 2 ^ 32 → var_number w < 2 ^ 32 → var_word v ≡ var_word w → v ≡ w
+pub var_same : (v w : Var) → var_misfits v ≡ 0 → var_misfits w ≡ 0 → var_word v ≡ var_word w → v ≡ w
 var_same v w h k e = sym (var_back v h) ∙ ap var_of e ∙ var_back w k
 
 -- ---- labels and functions
@@ -59,23 +59,23 @@ var_same v w h k e = sym (var_back v h) ∙ ap var_of e ∙ var_back w k
 abbrev slot_letter : List ℕ → ℕ
 slot_letter w = get_or w 1 0
 
-slot_same : (x y : Slot) → largest (slot_numbers x) < 2 ^ 32 → largest (slot_numbers y) < 2 ^ 32 → slot_word x ≡ slot_word y → x ≡ y
+slot_same : (x y : Slot) → slot_misfits x ≡ 0 → slot_misfits y ≡ 0 → slot_word x ≡ slot_word y → x ≡ y
 slot_same Seq Seq h k e = refl
-slot_same (To a) (To b) h k e = ap To (hex_same a b [] [] (omega arith) (omega arith) (ap (λ w. drop 3 w ++ []) e)).same
-slot_same (Dyn a) (Dyn b) h k e = ap Dyn (hex_same a b [] [] (omega arith) (omega arith) (ap (λ w. drop 3 w ++ []) e)).same
+slot_same (To a) (To b) h k e = ap To (hex_same a b [] [] (has_bits 32 a h) (has_bits 32 b k) (ap (λ w. drop 3 w ++ []) e)).same
+slot_same (Dyn a) (Dyn b) h k e = ap Dyn (hex_same a b [] [] (has_bits 32 a h) (has_bits 32 b k) (ap (λ w. drop 3 w ++ []) e)).same
 slot_same (CallTo a b) (CallTo c d) h k e =
-    let one = hex_same a c (95 ∷ hex b) (95 ∷ hex d) (omega arith) (omega arith) (ap (drop 3) e) in
-    let two = hex_same b d [] [] (omega arith) (omega arith) (ap (λ w. drop 1 w ++ []) one.rest) in
+    let one = hex_same a c (95 ∷ hex b) (95 ∷ hex d) (has_bits 32 a (omega arith)) (has_bits 32 c (omega arith)) (ap (drop 3) e) in
+    let two = hex_same b d [] [] (has_bits 32 b (omega arith)) (has_bits 32 d (omega arith)) (ap (λ w. drop 1 w ++ []) one.rest) in
     let p : a ≡ c = one.same in
     let q : b ≡ d = two.same in
     cc
-slot_same (CallDyn a) (CallDyn b) h k e = ap CallDyn (hex_same a b [] [] (omega arith) (omega arith) (ap (λ w. drop 3 w ++ []) e)).same
+slot_same (CallDyn a) (CallDyn b) h k e = ap CallDyn (hex_same a b [] [] (has_bits 32 a h) (has_bits 32 b k) (ap (λ w. drop 3 w ++ []) e)).same
 slot_same Ret Ret h k e = refl
 slot_same x y h k e = absurd (let letters = ap slot_letter e in omega (arith, letters))
 
-pub label_same : (p q : Point) → point_number p < 2 ^ 32 → point_number q < 2 ^ 32 → label_word p ≡ label_word q → p ≡ q
+pub label_same : (p q : Point) → point_misfits p ≡ 0 → point_misfits q ≡ 0 → label_word p ≡ label_word q → p ≡ q
 label_same p q h k e =
-    let one = hex_same p.pc q.pc (slot_word p.slot) (slot_word q.slot) (omega arith) (omega arith) (ap (drop 2) e) in
+    let one = hex_same p.pc q.pc (slot_word p.slot) (slot_word q.slot) (has_bits 32 p.pc (omega arith)) (has_bits 32 q.pc (omega arith)) (ap (drop 2) e) in
     let two = slot_same p.slot q.slot (omega arith) (omega arith) one.rest in
     λ i. record { pc = one.same i; slot = two i }
 

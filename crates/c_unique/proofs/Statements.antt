@@ -1,5 +1,5 @@
 -- The tokens of a statement determine it, and where it ends.
-use Rattle.std.proofs.Common.{◌≡◌, ℕ, ◌<◌, ◌^◌, List, [], ◌∷◌, ◌++◌, drop, map, refl, sym, ap, ◌∙◌, subst, arith, append_assoc}
+use Rattle.std.proofs.Common.{◌≡◌, ℕ, List, [], ◌∷◌, ◌++◌, drop, map, refl, sym, ap, ◌∙◌, subst, arith, append_assoc}
 use Rattle.std.specs.List.{flat_map}
 use Rattle.std.proofs.lemmas.List.Folds.{flat_map-map}
 use Rattle.c_lang.specs.declared.tree.CExpr.{CExpr}
@@ -10,11 +10,12 @@ use Rattle.c_text.specs.Tokens.{Token, name, plain, word, mark}
 use Rattle.c_text.specs.Words.{var_word, function_word}
 use Rattle.c_text.specs.Expressions.{expr_toks, listed, var_token}
 use Rattle.c_text.specs.Statements.{condition_toks, stmt_toks, node_stmt}
-use Rattle.c_unique.specs.NamedNumbers.{expr_number, node_stmt_number, stmt_number}
+use Rattle.c_lang.specs.Spellable.{expr_misfits, node_stmt_misfits, stmt_misfits}
+use Rattle.c_lang.proofs.SpellingLaws.{has_bits}
 use Rattle.c_unique.proofs.Alike.{Alike}
 use Rattle.c_unique.proofs.Names.{var_same, function_same}
-use Rattle.c_unique.proofs.Rows.{first_letter, Each, each_all, Sure, no_comma, row_same, listed_same}
-use Rattle.c_unique.proofs.Expressions.{spell, spelled, by_form, SureExpr, expr_same}
+use Rattle.c_unique.proofs.Rows.{first_letter, Each, each_all, each_fits, Sure, no_comma, row_same, listed_same}
+use Rattle.c_unique.proofs.Expressions.{spell, spelled, by_form, ExprFits, SureExpr, expr_same}
 use Rattle.c_unique.proofs.FirstTokens.{kind, of_set, value_expr}
 
 -- the tokens of a statement and those behind it, by its form
@@ -34,9 +35,9 @@ toks_by_form : (x : Stmt-F Stmt) → stmt_toks (roll-Stmt x) ≡ node_stmt (map-
 unfolding stmt_toks
 toks_by_form x = fold-roll-Stmt (List Token) node_stmt x
 
-pub number_by_form : (x : Stmt-F Stmt) → stmt_number (roll-Stmt x) ≡ node_stmt_number (map-Stmt Stmt ℕ stmt_number x)
-unfolding stmt_number
-number_by_form x = fold-roll-Stmt ℕ node_stmt_number x
+pub misfits_by_form : (x : Stmt-F Stmt) → stmt_misfits (roll-Stmt x) ≡ node_stmt_misfits (map-Stmt Stmt ℕ stmt_misfits x)
+unfolding stmt_misfits
+misfits_by_form x = fold-roll-Stmt ℕ node_stmt_misfits x
 
 if_regrouped : (e : CExpr) (xs : List Stmt) (r : List Token) → (condition_toks e ++ (flat_map stmt_toks xs ++ mark "}" ∷ [])) ++ r ≡ spell_stmt (Stmt-F.If e xs) r
 if_regrouped e xs r = simp append_assoc
@@ -85,12 +86,16 @@ no_form_closes (CExpr-F.Of v) t ts e = cc
 no_form_closes (CExpr-F.Bin op a b) t ts e = let letters = ap first_letter e in omega (arith, letters)
 no_form_closes (CExpr-F.Choose c a b) t ts e = let letters = ap first_letter e in omega (arith, letters)
 
-no_expr_closes : (ts : List Token) (x : CExpr) (t : List Token) → expr_number x < 2 ^ 32 → expr_toks x ++ t ≡ mark ")" ∷ ts → ⊥
+no_expr_closes : (ts : List Token) (x : CExpr) (t : List Token) → ExprFits x → expr_toks x ++ t ≡ mark ")" ∷ ts → ⊥
 no_expr_closes ts x t h = by_form (λ x. expr_toks x ++ t ≡ mark ")" ∷ ts → ⊥) (λ z e. no_form_closes z t ts (sym (spelled z t) ∙ e)) x
 
 -- a statement by its form
 pub stmt_by_form : (P : Stmt → Type 0) → ((z : Stmt-F Stmt) → P (roll-Stmt z)) → (s : Stmt) → P s
 stmt_by_form P f = ind-Stmt P (λ x y e. let Q : Stmt-F Stmt → Type 0 = λ z. P (roll-Stmt z) in subst Q e (f (map-Stmt _ Stmt (λ e. e.0) y)))
+
+-- each number of a statement has few enough bits
+abbrev pub StmtFits : Stmt → Type 0
+StmtFits s = stmt_misfits s ≡ 0
 
 -- no statement begins with a `}`
 no_stmt_form_closes : (z : Stmt-F Stmt) (t ts : List Token) → spell_stmt z t ≡ mark "}" ∷ ts → ⊥
@@ -104,22 +109,22 @@ no_stmt_form_closes (Stmt-F.Call f es) t ts q = cc
 no_stmt_form_closes (Stmt-F.If e inner) t ts q = cc
 no_stmt_form_closes (Stmt-F.Stop n e) t ts q = cc
 
-no_stmt_closes : (ts : List Token) (x : Stmt) (t : List Token) → stmt_number x < 2 ^ 32 → stmt_toks x ++ t ≡ mark "}" ∷ ts → ⊥
+no_stmt_closes : (ts : List Token) (x : Stmt) (t : List Token) → StmtFits x → stmt_toks x ++ t ≡ mark "}" ∷ ts → ⊥
 no_stmt_closes ts x t h = stmt_by_form (λ x. stmt_toks x ++ t ≡ mark "}" ∷ ts → ⊥) (λ z e. no_stmt_form_closes z t ts (sym (spelled_stmt z t) ∙ e)) x
 
 abbrev pub SureStmt : Stmt → Type 0
-SureStmt s = Sure stmt_toks stmt_number s
+SureStmt s = Sure stmt_toks StmtFits s
 
 -- the statements within are determined
 abbrev SureInner : Stmt-F Stmt → Type 0
 SureInner (Stmt-F.If e inner) = Each SureStmt inner
 SureInner _ = Unit {0}
 
-abbrev number_of : Stmt-F Stmt → ℕ
-number_of x = node_stmt_number (map-Stmt Stmt ℕ stmt_number x)
+abbrev misfits_of : Stmt-F Stmt → ℕ
+misfits_of x = node_stmt_misfits (map-Stmt Stmt ℕ stmt_misfits x)
 
 -- by the forms of both
-forms_same : (x z : Stmt-F Stmt) (r s : List Token) → SureInner x → number_of x < 2 ^ 32 → number_of z < 2 ^ 32 → stmt_kind x ≡ stmt_kind z → spell_stmt x r ≡ spell_stmt z s
+forms_same : (x z : Stmt-F Stmt) (r s : List Token) → SureInner x → misfits_of x ≡ 0 → misfits_of z ≡ 0 → stmt_kind x ≡ stmt_kind z → spell_stmt x r ≡ spell_stmt z s
     → Alike (roll-Stmt x) (roll-Stmt z) r s
 forms_same (Stmt-F.Set v a) (Stmt-F.Set w b) r s sure h k t e =
     let names : var_word v ≡ var_word w = cc in
@@ -156,25 +161,25 @@ forms_same (Stmt-F.Serve n x y z) (Stmt-F.Serve m a b c) r s sure h k t e =
     record { same = λ i. roll-Stmt (Stmt-F.Serve (one.same i) (two.same i) (three.same i) (four.same i)); rest = ap (drop 2) four.rest }
 forms_same (Stmt-F.Call f es) (Stmt-F.Call g ds) r s sure h k t e =
     let names : function_word f ≡ function_word g = cc in
-    let entries = function_same f g (omega arith) (omega arith) names in
-    let all = listed_same expr_toks expr_number es ds (mark ")" ∷ mark ";" ∷ r) (mark ")" ∷ mark ";" ∷ s) (each_all SureExpr expr_same es)
-    (no_expr_closes (mark ";" ∷ r)) (no_expr_closes (mark ";" ∷ s)) (no_comma (mark ";" ∷ r)) (no_comma (mark ";" ∷ s)) (omega arith) (omega arith) (ap (drop 2) e) in
+    let entries = function_same f g (has_bits 32 f (omega arith)) (has_bits 32 g (omega arith)) names in
+    let all = listed_same expr_toks ExprFits es ds (mark ")" ∷ mark ";" ∷ r) (mark ")" ∷ mark ";" ∷ s) (each_all SureExpr expr_same es)
+    (no_expr_closes (mark ";" ∷ r)) (no_expr_closes (mark ";" ∷ s)) (no_comma (mark ";" ∷ r)) (no_comma (mark ";" ∷ s)) (each_fits expr_misfits es (omega arith)) (each_fits expr_misfits ds (omega arith)) (ap (drop 2) e) in
     record { same = λ i. roll-Stmt (Stmt-F.Call (entries i) (all.same i)); rest = ap (drop 2) all.rest }
 forms_same (Stmt-F.If a xs) (Stmt-F.If b ys) r s sure h k t e =
     let one = expr_same a b (mark ")" ∷ mark "{" ∷ (flat_map stmt_toks xs ++ mark "}" ∷ r)) (mark ")" ∷ mark "{" ∷ (flat_map stmt_toks ys ++ mark "}" ∷ s)) (omega arith) (omega arith) (ap (drop 2) e) in
-    let all = row_same stmt_toks stmt_number xs ys (mark "}" ∷ r) (mark "}" ∷ s) sure (no_stmt_closes r) (no_stmt_closes s) (omega arith) (omega arith) (ap (drop 2) one.rest) in
+    let all = row_same stmt_toks StmtFits xs ys (mark "}" ∷ r) (mark "}" ∷ s) sure (no_stmt_closes r) (no_stmt_closes s) (each_fits stmt_misfits xs (omega arith)) (each_fits stmt_misfits ys (omega arith)) (ap (drop 2) one.rest) in
     record { same = λ i. roll-Stmt (Stmt-F.If (one.same i) (all.same i)); rest = ap (drop 1) all.rest }
 forms_same (Stmt-F.Stop n a) (Stmt-F.Stop m b) r s sure h k t e =
     let numbers : n ≡ m = cc in
-    let one = expr_same a b (mark ")" ∷ mark ";" ∷ r) (mark ")" ∷ mark ";" ∷ s) h k (ap (drop 4) e) in
+    let one = expr_same a b (mark ")" ∷ mark ";" ∷ r) (mark ")" ∷ mark ";" ∷ s) (omega arith) (omega arith) (ap (drop 4) e) in
     record { same = λ i. roll-Stmt (Stmt-F.Stop (numbers i) (one.same i)); rest = ap (drop 2) one.rest }
 forms_same x z r s _ _ _ t _ = absurd (omega (arith, t))
 
 rolled_sure : (x : Stmt-F Stmt) → SureInner x → SureStmt (roll-Stmt x)
-rolled_sure x sure = stmt_by_form (λ b. (r s : List Token) → stmt_number (roll-Stmt x) < 2 ^ 32 → stmt_number b < 2 ^ 32 → stmt_toks (roll-Stmt x) ++ r ≡ stmt_toks b ++ s → Alike (roll-Stmt x) b r s)
+rolled_sure x sure = stmt_by_form (λ b. (r s : List Token) → StmtFits (roll-Stmt x) → StmtFits b → stmt_toks (roll-Stmt x) ++ r ≡ stmt_toks b ++ s → Alike (roll-Stmt x) b r s)
     (λ z r s h k e.
     let forms : spell_stmt x r ≡ spell_stmt z s = sym (spelled_stmt x r) ∙ e ∙ spelled_stmt z s in
-    forms_same x z r s sure (subst (λ n. n < 2 ^ 32) (number_by_form x) h) (subst (λ n. n < 2 ^ 32) (number_by_form z) k) (sym (has_kind x r) ∙ ap kind forms ∙ has_kind z s) forms)
+    forms_same x z r s sure (sym (misfits_by_form x) ∙ h) (sym (misfits_by_form z) ∙ k) (sym (has_kind x r) ∙ ap kind forms ∙ has_kind z s) forms)
 
 each_within : (xs : List ((s : Stmt) × SureStmt s)) → Each SureStmt (map (λ e. e.0) xs)
 each_within [] = tt

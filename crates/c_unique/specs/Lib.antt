@@ -1,2 +1,1 @@
-pub mod NamedNumbers
 pub mod Unique

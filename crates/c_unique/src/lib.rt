@@ -3,24 +3,13 @@
 
 ghost use Rattle.c_unique.specs.Unique.{NoTwoSpellings, OneProgram};
 
-/// The tokens of a C text determine its program: programs with the same tokens are the same, if each number
-/// in their names is one of 32 bits.
+/// The tokens of a C text determine its program: programs with the same tokens are the same, if both have a
+/// spelling.
 pub fn no_two_spellings()
     ensures { NoTwoSpellings }
 {}
 
-/// A C text determines its program: a text is that of at most one program whose names have numbers of 32 bits.
+/// A C text determines its program: a text spells at most one.
 pub fn one_program()
     ensures { OneProgram }
 {}
-
-#[cfg(test)]
-mod tests {
-    use super::*;
-
-    #[test]
-    fn laws_can_be_called() {
-        no_two_spellings();
-        one_program();
-    }
-}

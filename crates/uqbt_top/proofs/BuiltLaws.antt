@@ -1,7 +1,6 @@
 -- What is built of files, and what is done with them.
 use Rattle.std.proofs.Common.{◌≡◌, ℕ, Bool, ◌+◌, ◌<◌, List, [], ◌∷◌, ◌++◌, length, map, take, get_or, ◌≤◌, ◌-◌, ◌^◌, refl, sym, ap, ◌∙◌, subst, arith}
 use Rattle.std.specs.Prelude.{All, IfOk, IfErr, Result, Ok, Err}
-use Rattle.std.proofs.lemmas.List.Elements.{All-nil, All-cons, All-head, All-tail}
 use Rattle.rtl_core.specs.declared.encodings.Encodings.{Encodings}
 use Rattle.points.specs.Machine.{Setting}
 use Rattle.load_image.specs.declared.image.Image.{Image}
@@ -12,7 +11,8 @@ use Rattle.elf32.specs.declared.elf.Segment.{Segment}
 use Rattle.load_image.specs.Mapped.{segment_part}
 use Rattle.line_reading.proofs.TextLaws.{take_next}
 use Rattle.c_lang.specs.declared.tree.CSeg.{CSeg}
-use Rattle.c_emit.specs.Emitted.{AreShortSegments, IsTranslation, TranslatesLines}
+use Rattle.c_lang.specs.Spellable.{SegmentsFit}
+use Rattle.c_emit.specs.Emitted.{IsTranslation, TranslatesLines}
 use Rattle.c_emit.specs.Line.{segment_of, ends_within}
 use Rattle.uqbt_top.specs.declared.outcome.Outcome.{Outcome}
 use Rattle.uqbt_top.specs.declared.outcome.Outcome.TheVariants.{Done, Ran, Spent, Usage, Description, Executable, InputTooLong, FileTooLong, NoMemory, WriteFault, ReadFault}
@@ -82,22 +82,16 @@ translate_refused texts t exe (FileTooLong file) out is r = absurd r
 translate_refused texts t exe WriteFault out is r = absurd r
 translate_refused texts t exe ReadFault out is r = absurd r
 
-short_segments : (ls : List Segment) → All (λ s. length s.bytes ≤ 2 ^ 32 - 1) ls → AreShortSegments (map segment_of (map segment_part ls))
-short_segments [] h = All-nil (λ s. length s.bytes ≤ 2 ^ 32 - 1)
-short_segments (l ∷ ls) h =
-    All-cons (λ s. length s.bytes ≤ 2 ^ 32 - 1) (segment_of (segment_part l)) (map segment_of (map segment_part ls))
-    (All-head (λ s. length s.bytes ≤ 2 ^ 32 - 1) l ls h) (short_segments ls (All-tail (λ s. length s.bytes ≤ 2 ^ 32 - 1) l ls h))
-
 -- a machine with an image, by encodings that are its own
 abbrev pub setting_by : Encodings → Described → Image → Setting
 setting_by e d i = record { encodings = e; machine = d.named.machine; conv = d.conv; frozen = i.frozen }
 
 -- a text of the line of an image is a translation of it
-pub is_translated : (d : Described) (i : Image) (e : Encodings) (segments : List CSeg) (p : Program) → e ≡ d.encodings → segments ≡ map segment_of (map segment_part i.segments) → IsReady i
+pub is_translated : (d : Described) (i : Image) (e : Encodings) (segments : List CSeg) (p : Program) → e ≡ d.encodings → segments ≡ map segment_of (map segment_part i.segments) → SegmentsFit segments
     → TranslatesLines (setting_by e d i) segments i.entry p → IsTranslation (setting_with d i) (parts_of i) i.entry p
-is_translated d i e segments p same are ready translates =
+is_translated d i e segments p same are fit translates =
     subst (λ x. IsTranslation (setting_by x d i) (parts_of i) i.entry p) same
-    (translates (parts_of i) are (subst AreShortSegments (sym are) (short_segments i.segments ready.segments)))
+    (translates (parts_of i) are fit)
 
 -- whether its line ends, by what was built of it
 pub line_told : (d : Described) (i : Image) (e : Encodings) (told v : Bool) → e ≡ d.encodings → told ≡ ends_within (setting_by e d i) most_points i.entry → told ≡ v

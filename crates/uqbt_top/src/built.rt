@@ -1,12 +1,14 @@
 //! What is built of the files.
-ghost use Rattle.std.specs.Prelude.{◌≡◌, ◌<◌, ◌-◌, ◌^◌, length, map, true, IfOk, IfErr};
+ghost use Rattle.std.specs.Prelude.{◌≡◌, ◌<◌, ◌≤◌, ◌-◌, ◌^◌, length, map, true, All, IfOk, IfErr};
 ghost use Rattle.rtl_core.specs.SoundConv.{AreSoundTogether};
+ghost use Rattle.c_lang.specs.Spellable.{SegmentFits, SegmentsFit};
 ghost use Rattle.c_emit.specs.Emitted.{IsTranslation};
 ghost use Rattle.c_emit.specs.Line.{ends_within, segment_of};
 ghost use Rattle.load_image.specs.Mapped.{segment_part};
 ghost use Rattle.uqbt_top.specs.Built.{AreOf, AreRefused, IsExeFault, IsImageOf, IsLong, IsReady, IsRefused, IsRefusedExe, Translates, most_points, parts_of, setting_with};
 ghost use Rattle.uqbt_top.specs.Running.{HasMemory};
 
+use crate::reading::are_bytes;
 use crate::{ExeFault, FileName, Outcome};
 use c_emit::line_program;
 use c_lang::{CSeg, Program};
@@ -72,18 +74,32 @@ pub fn loaded(alloc: Global, exe: &[u8], on: &Described) -> Result<Image, Outcom
     }
 }
 
+/// A segment as one of a C text.
+fn segment_of(alloc: Global, segment: &Segment) -> Result<CSeg, AllocError>
+    requires { length segment.now.bytes ≤ 2 ^ 32 - 1 }
+    ensures same { IfOk result (λ s. s ≡ segment_of (segment_part segment.now)) }
+    ensures fits { IfOk result SegmentFits }
+{
+    let (base, len) = (segment.base, segment.len);
+    let bytes = segment.bytes.as_slice();
+    are_bytes(bytes);
+    Ok(CSeg {
+        base,
+        write: segment.write,
+        len,
+        bytes: Items::from_slice(alloc, bytes)?,
+    })
+}
+
 /// Segments as those of a C text.
 fn segments_of(alloc: Global, segments: &[Segment]) -> Result<Items<CSeg>, AllocError>
-    ensures { IfOk result (λ all. all ≡ map segment_of (map segment_part segments.now)) }
+    requires { All (λ s. length s.bytes ≤ 2 ^ 32 - 1) segments.now }
+    ensures same { IfOk result (λ all. all ≡ map segment_of (map segment_part segments.now)) }
+    ensures fit { IfOk result SegmentsFit }
 {
     let mut all = Items::new(alloc);
     for segment in segments {
-        all.push(CSeg {
-            base: segment.base,
-            write: segment.write,
-            len: segment.len,
-            bytes: Items::from_slice(alloc, segment.bytes.as_slice())?,
-        })?;
+        all.push(segment_of(alloc, segment)?)?;
     }
     Ok(all)
 }

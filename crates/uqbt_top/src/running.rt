@@ -4,7 +4,7 @@ ghost use Rattle.rtl_core.specs.SoundConv.{AreSoundTogether};
 ghost use Rattle.points.specs.Machine.{machine_run};
 ghost use Rattle.space.specs.Ranges.{memory_of};
 ghost use Rattle.load_image.specs.Mapped.{AreBuildable};
-ghost use Rattle.stepper.specs.Shown.{IsSoundSetting, setting_of};
+ghost use Rattle.points.specs.Bundles.{IsSoundSetting, setting_of};
 ghost use Rattle.uqbt_top.specs.Built.{IsReady};
 ghost use Rattle.uqbt_top.specs.Causes.{RunRead};
 ghost use Rattle.uqbt_top.specs.Running.{HasMemory, IsInput, LoadedRan, MachineRan, NoInput, RunKeepsInput, RunKeepsOut, TookSome, outcome_of_run};

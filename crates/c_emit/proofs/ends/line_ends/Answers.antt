@@ -1,5 +1,5 @@
 use Rattle.std.proofs.Common.{◌≡◌, ◌-◌, true, subst}
-use Rattle.c_emit.specs.Emitted.{setting_of}
+use Rattle.points.specs.Bundles.{setting_of}
 use Rattle.c_emit.specs.Line.{along, ends_within}
 use Rattle.c_emit.proofs.LineLaws.{next_ends}
 use Rattle.c_emit.proofs.ends.line_ends.Goals as goal

@@ -1,5 +1,6 @@
 use Rattle.std.proofs.Common.{◌≡◌, ◌-◌, ◌++◌, [], map, max, true}
-use Rattle.c_emit.specs.Emitted.{setting_of, most_need, line_temporaries}
+use Rattle.c_emit.specs.Emitted.{most_need, line_temporaries}
+use Rattle.points.specs.Bundles.{setting_of}
 use Rattle.c_emit.specs.Line.{line, line_block, along, ends_within}
 use Rattle.c_emit.specs.LineTheorem.{lowering}
 use Rattle.c_emit.proofs.line.line_blocks.Given as goal

@@ -1,15 +1,17 @@
-use Rattle.std.proofs.Common.{ap, ◌∷◌, []}
+use Rattle.std.proofs.Common.{ap, ◌∙◌, ◌++◌, ◌∷◌, []}
 use Rattle.std.proofs.lemmas.Result.{on_ok_weaker, on_err_weaker}
 use Rattle.c_text.specs.Tokens.{plain}
 use Rattle.c_text.specs.Expressions.{listed}
+use Rattle.c_text.specs.Gaps.{gap_toks}
+use Rattle.c_text.proofs.Rows.{listed_last}
 use Rattle.c_text.proofs.Written.{wrote_both, broke_then, broke_here, wrote_as, broke_as, any_err}
 use Rattle.c_text.proofs.items.put_numbers.Goals as goal
 
-pub returns-in_err-put_plain-clause-broke : goal.returns-in_err-put_plain-clause-broke
-returns-in_err-put_plain-clause-broke g c = any_err _ (broke_as (ap (listed (λ n. plain n ∷ [])) c.in-Some.ensures.cases.0) (broke_here _ c.in_err-put_plain.ensures.broke))
+pub returns-in_err-put_front-clause-broke : goal.returns-in_err-put_front-clause-broke
+returns-in_err-put_front-clause-broke g c = any_err _ (broke_as (ap (λ ns. listed (λ n. plain n ∷ []) ns ++ gap_toks c.args.gap.now) c.in-Some.ensures.cases.0 ∙ listed_last (λ n. plain n ∷ []) c.in-Some.front.now c.in-Some.last.now (gap_toks c.args.gap.now)) (broke_here _ c.in_err-put_front.ensures.broke))
 
 pub returns-clause-wrote : goal.returns-clause-wrote
-returns-clause-wrote g c = on_ok_weaker c.put_more.result (λ f. wrote_as (ap (listed (λ n. plain n ∷ [])) c.in-Some.ensures.cases.0) (wrote_both c.in_ok-put_plain.ensures.wrote f)) c.put_more.ensures.wrote
+returns-clause-wrote g c = on_ok_weaker c.put_plain.result (λ f. wrote_as (ap (λ ns. listed (λ n. plain n ∷ []) ns ++ gap_toks c.args.gap.now) c.in-Some.ensures.cases.0 ∙ listed_last (λ n. plain n ∷ []) c.in-Some.front.now c.in-Some.last.now (gap_toks c.args.gap.now)) (wrote_both c.in_ok-put_front.ensures.wrote f)) c.put_plain.ensures.wrote
 
 pub returns-clause-broke : goal.returns-clause-broke
-returns-clause-broke g c = on_err_weaker c.put_more.result (λ f. broke_as (ap (listed (λ n. plain n ∷ [])) c.in-Some.ensures.cases.0) (broke_then c.in_ok-put_plain.ensures.wrote f)) c.put_more.ensures.broke
+returns-clause-broke g c = on_err_weaker c.put_plain.result (λ f. broke_as (ap (λ ns. listed (λ n. plain n ∷ []) ns ++ gap_toks c.args.gap.now) c.in-Some.ensures.cases.0 ∙ listed_last (λ n. plain n ∷ []) c.in-Some.front.now c.in-Some.last.now (gap_toks c.args.gap.now)) (broke_then c.in_ok-put_front.ensures.wrote f)) c.put_plain.ensures.broke

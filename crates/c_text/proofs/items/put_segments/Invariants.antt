@@ -1,5 +1,5 @@
 use Rattle.std.proofs.Common.{take}
-use Rattle.c_text.specs.Items.{segments_toks}
+use Rattle.c_text.proofs.Parts.{segments_toks}
 use Rattle.c_text.specs.Output.{Wrote}
 use Rattle.c_text.proofs.items.put_segments.Given as goal
 

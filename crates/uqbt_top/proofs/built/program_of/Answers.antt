@@ -11,7 +11,7 @@ returns-in-Some-clause-translation c =
     let d = c.args.on.now in
     let i = c.args.image.now in
     is_translated d i c.in_ok-matcher.matcher c.in_ok-segments.segments c.in-Some.program c.in_ok-matcher.ensures
-    (c.in_ok-segments.ensures ∙ ap (λ ls. map segment_of (map segment_part ls)) c.as_slice.ensures) c.requires.ready
+    (c.in_ok-segments.ensures.same ∙ ap (λ ls. map segment_of (map segment_part ls)) c.as_slice.ensures) c.in_ok-segments.ensures.fit
     (subst (λ o. IfSome o (TranslatesLines (setting_by c.in_ok-matcher.matcher d i) c.in_ok-segments.segments i.entry)) c.in-Some.is c.in_ok-program.ensures.translation)
 
 pub returns-in-Some-clause-short : goal.returns-in-Some-clause-short

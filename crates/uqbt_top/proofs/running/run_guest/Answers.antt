@@ -1,5 +1,5 @@
 use Rattle.space.specs.Ranges.{memory_of}
-use Rattle.stepper.specs.Shown.{setting_of}
+use Rattle.points.specs.Bundles.{setting_of}
 use Rattle.uqbt_top.proofs.RunLaws.{nothing_taken}
 use Rattle.uqbt_top.proofs.running.run_guest.Goals as goal
 
