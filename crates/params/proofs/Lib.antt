@@ -1,0 +1,12 @@
+pub mod Members
+pub mod NamedCells
+pub mod Lawful
+pub mod OneList
+pub mod PlanClosed
+pub mod CellLists
+pub mod Searching
+pub mod Turning
+pub mod Choosing
+pub mod Arriving
+pub mod Bodies
+pub mod Exact
