@@ -1,0 +1,17 @@
+pub mod CellLists
+pub mod Places
+pub mod Choices
+pub mod Landings
+pub mod Instructions
+pub mod Needs
+pub mod Owns
+pub mod FunctionLists
+pub mod TreeLaws
+pub mod SmallPoints
+pub mod Planned
+pub mod Sourcing
+pub mod Showing
+pub mod Enough
+pub mod BlockLookups
+pub mod ProcedureFunctions
+pub mod GraphFunctions

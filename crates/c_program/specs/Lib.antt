@@ -1,0 +1,9 @@
+pub mod Trees
+pub mod Entered
+pub mod Shown
+pub mod Kept
+pub mod Ready
+pub mod Functions
+pub mod Whole
+pub mod Choosing
+pub mod Planning
