@@ -1,0 +1,4 @@
+pub mod WorkedMachine
+pub mod WorkedPrograms
+pub mod WorkedPoints
+pub mod WorkedProcedures
