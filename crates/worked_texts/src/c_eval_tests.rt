@@ -65,9 +65,11 @@ fn stop_by_t1(alloc: Global) -> Result<Stmt, AllocError> {
 
 /// `uq_serve(4, 1, 4, 2);`, the call and the stop.
 fn controls(alloc: Global) -> Result<Items<Stmt>, AllocError> {
-    let serve = Stmt::Serve(CExpr::Num(4), CExpr::Num(1), CExpr::Num(4), CExpr::Num(2));
-    let stmts = vec![in alloc; serve, call(alloc)?, stop_by_t1(alloc)?]?;
-    Ok(Items::from_vec(stmts))
+    let mut stmts = Items::new(alloc);
+    stmts.push(Stmt::Serve(CExpr::Num(4), CExpr::Num(1), CExpr::Num(4), CExpr::Num(2)))?;
+    stmts.push(call(alloc)?)?;
+    stmts.push(stop_by_t1(alloc)?)?;
+    Ok(stmts)
 }
 
 fn block(pc: u32, stmts: Items<Stmt>, end: End) -> CBlock {
@@ -82,7 +84,10 @@ fn block(pc: u32, stmts: Items<Stmt>, end: End) -> CBlock {
 fn main_blocks(alloc: Global) -> Result<Items<CBlock>, AllocError> {
     let first = block(0x1000, moves(alloc)?, End::Goto(label(0x1004)));
     let second = block(0x1004, controls(alloc)?, End::Return);
-    Ok(Items::from_vec(vec![in alloc; first, second]?))
+    let mut blocks = Items::new(alloc);
+    blocks.push(first)?;
+    blocks.push(second)?;
+    Ok(blocks)
 }
 
 /// A return.
@@ -111,7 +116,10 @@ fn function(
 fn functions(alloc: Global) -> Result<Items<Function>, AllocError> {
     let first = function(alloc, 0x1000, &[], main_blocks(alloc)?)?;
     let second = function(alloc, 0x2000, &[8], back_blocks(alloc)?)?;
-    Ok(Items::from_vec(vec![in alloc; first, second]?))
+    let mut functions = Items::new(alloc);
+    functions.push(first)?;
+    functions.push(second)?;
+    Ok(functions)
 }
 
 fn program(alloc: Global) -> Result<Program, AllocError> {
