@@ -1,9 +1,4 @@
 //! Why a Space can't be built or shared, and why an access can't be made.
-ghost use Rattle.std.specs.Prelude.{◌≡◌};
-ghost use Rattle.paged_space.specs.declared.fault.SpaceFault.TheVariants as space_faults;
-ghost use Rattle.paged_space.specs.declared.fault.TwinFault.TheVariants as twin_faults;
-
-use std::alloc::{AllocError, AllocFailed};
 use thiserror::Error;
 
 /// Why ranges make no Space. `index` is the place of the range, counted from 0; a place over 2^32 - 1 is told as 2^32 - 1.
@@ -25,14 +20,6 @@ pub enum SpaceFault {
     NoMemory,
 }
 
-impl From<AllocError> for SpaceFault {
-    ghost from_gives = { λ _ made. made ≡ space_faults.NoMemory };
-
-    fn from(_error: AllocError) -> SpaceFault {
-        SpaceFault::NoMemory
-    }
-}
-
 /// Why a Space has no twin.
 #[derive(Clone, Copy, Debug, PartialEq, Eq, Drop, Error)]
 pub enum TwinFault {
@@ -42,14 +29,6 @@ pub enum TwinFault {
     /// Memory ran out.
     #[error("out of memory")]
     NoMemory,
-}
-
-impl From<AllocError> for TwinFault {
-    ghost from_gives = { λ _ made. made ≡ twin_faults.NoMemory };
-
-    fn from(_error: AllocError) -> TwinFault {
-        TwinFault::NoMemory
-    }
 }
 
 /// The first byte of an access that is not mapped, or for a store not writable.
