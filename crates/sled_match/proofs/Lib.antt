@@ -2,3 +2,8 @@ pub mod Steps
 pub mod Sizes
 pub mod Readiness
 pub mod DepthLaws
+pub mod TokenBytes
+pub mod TreeLaws
+pub mod TreeBounds
+pub mod TreeSteps
+pub mod AllowsLaws

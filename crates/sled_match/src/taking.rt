@@ -1,6 +1,6 @@
 //! What items, alternatives, constructors and types take from the front of bytes.
 ghost use Rattle.std.specs.Prelude.{◌≡◌, ◌≤◌, ◌<◌, ◌^◌, length, [], replicate, All, IfSome};
-ghost use Rattle.rtl_core.specs.Matching.{item_taken, items_taken, constructor_taken, type_taken};
+ghost use Rattle.rtl_core.specs.Matching.{item_taken, items_taken, constructor_taken, first_matching, type_taken};
 ghost use Rattle.sled_match.specs.Matched.{taken_of};
 ghost use Rattle.sled_match.specs.Ready.{IsItemReady, AreReady};
 
@@ -103,7 +103,7 @@ fn take_constructor(
 /// The first constructor of a type that matches, with typed operands nested less than `deep`.
 #[cycle(taking)]
 #[tactic(auto, unfolding(rtl_core::specs::Matching::type_taken))]
-pub fn take_type(
+fn take_type(
     alloc: Global,
     enc: &Encodings,
     deep: usize,
@@ -119,8 +119,25 @@ pub fn take_type(
         return None;
     }
     let constructors = enc.types.get(kind as usize)?;
-    for constructor in constructors.as_slice() {
-        if let Some(found) = take_constructor(alloc, enc, deep - 1, *constructor, bytes) {
+    take_first(alloc, enc, deep - 1, constructors.as_slice(), bytes)
+}
+
+/// The first of some constructors that matches.
+#[cycle(taking)]
+pub fn take_first(
+    alloc: Global,
+    enc: &Encodings,
+    deep: usize,
+    constructors: &[u16],
+    bytes: &[u8],
+) -> Option<MatchedInst>
+    requires ready { AreReady enc.now }
+    requires short { length bytes.now < 2 ^ 32 }
+    ensures exact { taken_of result ≡ first_matching (constructor_taken (type_taken deep enc.now) enc.now bytes.now) constructors.now }
+    ensures within { IfSome result (λ r. r.len ≤ length bytes.now) }
+{
+    for constructor in constructors {
+        if let Some(found) = take_constructor(alloc, enc, deep, *constructor, bytes) {
             return Some(found);
         }
     }

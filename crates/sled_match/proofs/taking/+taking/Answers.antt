@@ -1,7 +1,7 @@
-use Rattle.std.proofs.Common.{ℕ, ◌-◌, List, Option, Some, refl, sym, ap, ◌∙◌, arith, subst, All}
+use Rattle.std.proofs.Common.{ℕ, ◌-◌, Option, sym, ap, ◌∙◌, arith, subst, All}
 use Rattle.rtl_core.specs.Matching.{Taken, first_matching, constructor_taken, type_taken}
 use Rattle.sled_match.specs.Ready.{IsItemReady, IsAlternativeReady}
-use Rattle.sled_match.proofs.Steps.{type_taken-there, first_matching-hit, first_matching-end, AreReady-alternative, few_joined}
+use Rattle.sled_match.proofs.Steps.{type_taken-there, AreReady-alternative, few_joined}
 use Rattle.sled_match.proofs.taking.+taking.Goals as goal
 
 pub take_constructor-take_items-requires : goal.take_constructor-take_items-requires
@@ -22,18 +22,9 @@ take_constructor-joined-leaves-requires t c =
     few_joined c.args.enc.now c.as_slice.result.now c.args.deep c.args.bytes.now c.in-Some.slots c.in-Some.len
     (subst (IsAlternativeReady c.args.enc.now) (sym c.as_slice.ensures) ready) c.in-Some.ensures.exact
 
-pub take_type-returns-in-Some-clause-exact : goal.take_type-returns-in-Some-clause-exact
-take_type-returns-in-Some-clause-exact t c =
-    let taken : ℕ → Option Taken = constructor_taken (type_taken (c.args.deep - 1) c.args.enc.now) c.args.enc.now c.args.bytes.now in
-    sym (first_matching-hit taken c.as_slice-constructor-items.result.now c.loop-constructor.constructor-index _ _ c.loop-constructor-test.true refl c.in-Some.ensures.exact)
-    ∙ c.loop-constructor.invariant
-    ∙ ap (first_matching taken) c.as_slice-constructor-items.ensures
-    ∙ sym (type_taken-there c.args.deep c.args.enc.now c.args.kind c.args.bytes.now c.in_ok-constructors.constructors.now (omega arith) (sym c.in_ok-constructors.ensures.value))
-
 pub take_type-returns-clause-exact : goal.take_type-returns-clause-exact
 take_type-returns-clause-exact t c =
     let taken : ℕ → Option Taken = constructor_taken (type_taken (c.args.deep - 1) c.args.enc.now) c.args.enc.now c.args.bytes.now in
-    sym (first_matching-end taken c.as_slice-constructor-items.result.now c.loop-constructor.constructor-index c.loop-constructor-test.false)
-    ∙ c.loop-constructor.invariant
-    ∙ ap (first_matching taken) c.as_slice-constructor-items.ensures
+    c.take_first.ensures.exact
+    ∙ ap (first_matching taken) c.as_slice.ensures
     ∙ sym (type_taken-there c.args.deep c.args.enc.now c.args.kind c.args.bytes.now c.in_ok-constructors.constructors.now (omega arith) (sym c.in_ok-constructors.ensures.value))
