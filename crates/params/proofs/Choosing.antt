@@ -18,6 +18,7 @@ use Rattle.points.specs.declared.graph.Summary.{Summary}
 use Rattle.points.specs.declared.graph.Graph.{Graph}
 use Rattle.points.specs.Exactly.{IsExactly}
 use Rattle.points.specs.Summaries.{IsMoving, IsWholeSummary, AreWholeSummaries}
+use Rattle.params.specs.ByEntry.{AreMoving}
 use Rattle.params.specs.Cells.{is_zero, marked_cells, moving_cells}
 use Rattle.params.specs.Leading.{row, AreUsers, AreColumns}
 use Rattle.params.specs.Listed.{summary_at, summaries_at, whole_summary}
@@ -116,6 +117,10 @@ moving-exactly m = record {
 
     cells : List ℕ
     cells = moving_cells n m.zero
+
+-- all cells but the zero cell, ascending
+pub moving-are : (m : Machine) → AreMoving m (moving_cells (length m.widths) m.zero)
+moving-are m = record { rise = chosen-rise (λ c. not (is_zero m.zero c)) (length m.widths); exactly = moving-exactly m }
 
 whole-is : (m : Machine) (p : Proc) → IsWholeSummary m (whole_summary (length m.widths) m.zero p)
 whole-is m p = record { refs_rise = chosen-rise (λ c. not (is_zero m.zero c)) (length m.widths); refs = moving-exactly m; mods = refl }

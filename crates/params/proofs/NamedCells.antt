@@ -19,6 +19,7 @@ use Rattle.rtl_core.specs.SoundConv.{FitsMachine, IsCellIfAny}
 use Rattle.rtl_core.specs.SoundMachine.{HaveSoundWindows}
 use Rattle.rtl_core.specs.SoundTerms.{HasWidth, IsSoundAct, IsSoundGuard, IsSoundTerm, IsSoundTransfer}
 use Rattle.rtl_core.specs.Terms.{Term, Const, Cell, Load, Unary, Binary, Slice, Zext, Sext, Choice, term_of}
+use Rattle.points.specs.Bundles.{LieInMemory}
 use Rattle.points.specs.declared.block.Block.TheVariants.{Inst, Outside, Illegal}
 use Rattle.points.specs.declared.block.Standing.{Standing}
 use Rattle.points.specs.declared.block.Standing.TheVariants.{Stands, Outside as StandsOutside, Illegal as StandsIllegal}
@@ -26,7 +27,7 @@ use Rattle.points.specs.Machine.{Setting, standing, code_standing}
 use Rattle.points.specs.Kinds.{block_at, block_of}
 use Rattle.points.specs.Summaries.{term_cells, expr_cells, guard_cells, cells_in_row, window_cells, cell_if_any, answer_cells, service_cells, act_names, act_assigns, transfers_name, transfers_assign, block_names}
 use Rattle.points.proofs.StandingSound.{standing-sound}
-use Rattle.params.specs.SummaryLaws.{LieInMemory, assigned_is_named, named_are_cells}
+use Rattle.params.specs.SummaryLaws.{assigned_is_named, named_are_cells}
 use Rattle.params.proofs.Members.{none-in, first-in, only-in}
 
 -- ---- what is assigned is named
@@ -149,7 +150,7 @@ part-above (q ∷ qs) a p h e = by (is_in q a) refl (part-above qs a p (All-tail
     by false i more e = more e
 
 -- code stands below 2^32 alone
-code-below : (f : Frozen) (a : ℕ) (bytes : List ℕ) → LieInMemory f → code_from f a ≡ Some bytes → a < 2 ^ 32
+pub code-below : (f : Frozen) (a : ℕ) (bytes : List ℕ) → LieInMemory f → code_from f a ≡ Some bytes → a < 2 ^ 32
 unfolding code_from
 code-below f a bytes lie e = by (part_of f.parts a) refl e
   where
@@ -157,7 +158,7 @@ code-below f a bytes lie e = by (part_of f.parts a) refl e
     by None h e = absurd (let n : None ≡ Some bytes = e in cc)
     by (Some p) h e = part-above f.parts a p lie h
 
-stands-below : (setting : Setting) (pc : ℕ) (inst : GroundInst) → LieInMemory setting.frozen → standing setting pc ≡ Stands inst → pc < 2 ^ 32
+pub stands-below : (setting : Setting) (pc : ℕ) (inst : GroundInst) → LieInMemory setting.frozen → standing setting pc ≡ Stands inst → pc < 2 ^ 32
 stands-below setting pc inst lie e = by (code_from setting.frozen pc) refl e
   where
     by : (o : Option (List ℕ)) → code_from setting.frozen pc ≡ o → code_standing setting pc o ≡ Stands inst → pc < 2 ^ 32

@@ -9,6 +9,7 @@ use Rattle.std.proofs.lemmas.Map.Views.{length-le_from_below}
 use Rattle.rtl_core.specs.declared.machine.Machine.{Machine}
 use Rattle.rtl_core.specs.declared.point.Point.{Point}
 use Rattle.rtl_core.specs.SoundConv.{AreSoundTogether}
+use Rattle.points.specs.Bundles.{LieInMemory}
 use Rattle.points.specs.declared.graph.Graph.{Graph}
 use Rattle.points.specs.declared.graph.Proc.{Proc}
 use Rattle.points.specs.declared.graph.Summary.{Summary}
@@ -23,7 +24,7 @@ use Rattle.c_control.specs.Choice.{Tree}
 use Rattle.c_control.specs.Programs.{AreClosed}
 use Rattle.c_control.proofs.Cells.{in-here, in-more, in-cases, in-none}
 use Rattle.params.specs.ByEntry.{refs_of, mods_of, AreMoving, plan_of, summaries_are_closed, whole_summaries_are_closed}
-use Rattle.params.specs.SummaryLaws.{LieInMemory, summarized}
+use Rattle.params.specs.SummaryLaws.{summarized}
 use Rattle.params.proofs.Members.{first-in, later-in, split-in, to-mapped, none-in}
 use Rattle.params.proofs.NamedCells.{named-are-cells, assigned-is-named}
 use Rattle.params.proofs.Lawful.{lawful, hold-cells, reached-procedure}

@@ -5,11 +5,11 @@ use Rattle.rtl_core.specs.declared.encodings.Encodings.{Encodings}
 use Rattle.rtl_core.specs.declared.frozen.Frozen.{Frozen}
 use Rattle.rtl_core.specs.declared.machine.Machine.{Machine}
 use Rattle.rtl_core.specs.SoundConv.{AreSoundTogether}
+use Rattle.points.specs.Bundles.{LieInMemory}
 use Rattle.points.specs.declared.graph.Graph.{Graph}
 use Rattle.points.specs.Bodies.{code_of}
 use Rattle.points.specs.Graphs.{IsGraph}
 use Rattle.points.specs.Machine.{Setting}
-use Rattle.params.specs.SummaryLaws.{LieInMemory}
 
 -- a machine and its conventions with encodings, and the bytes that no store changes
 abbrev pub setting_of : Machine → Conv → Encodings → Frozen → Setting

@@ -4,6 +4,7 @@ use Rattle.std.specs.List.Sorted.{IsStrictlySortedBy}
 use Rattle.std.specs.Ordering.{nat_cmp}
 use Rattle.rtl_core.specs.declared.machine.Machine.{Machine}
 use Rattle.rtl_core.specs.SoundConv.{AreSoundTogether}
+use Rattle.points.specs.Bundles.{LieInMemory}
 use Rattle.points.specs.declared.graph.Graph.{Graph}
 use Rattle.points.specs.declared.graph.Summary.{Summary}
 use Rattle.points.specs.Bodies.{code_of}
@@ -14,7 +15,7 @@ use Rattle.points.specs.Summaries.{IsMoving, AreSummaries, AreWholeSummaries}
 use Rattle.c_control.specs.Choice.{Tree}
 use Rattle.c_control.specs.Plans.{Plan}
 use Rattle.c_control.specs.Programs.{AreClosed}
-use Rattle.params.specs.SummaryLaws.{LieInMemory, summarized}
+use Rattle.params.specs.SummaryLaws.{summarized}
 
 -- the cells that the procedure at an entry may read or assign; others where no summary has that entry
 abbrev pub refs_of : List Summary → List ℕ → ℕ → List ℕ

@@ -1,14 +1,14 @@
 -- What follows of summaries, whatever the program is.
-use Rattle.std.specs.Prelude.{◌≡◌, ◌≢◌, ℕ, ◌+◌, ◌^◌, ◌<◌, ◌≤◌, List, length, Some}
-use Rattle.std.specs.List.{All, Contains}
+use Rattle.std.specs.Prelude.{◌≡◌, ◌≢◌, ℕ, ◌<◌, List, length, Some}
+use Rattle.std.specs.List.{Contains}
 use Rattle.rtl_core.specs.declared.conv.Conv.{Conv}
-use Rattle.rtl_core.specs.declared.frozen.Frozen.{Frozen}
 use Rattle.rtl_core.specs.declared.machine.Machine.{Machine}
 use Rattle.rtl_core.specs.declared.point.Point.{Point}
 use Rattle.rtl_core.specs.SoundConv.{AreSoundTogether}
 use Rattle.points.specs.declared.block.Block.{Block}
 use Rattle.points.specs.declared.graph.Graph.{Graph}
 use Rattle.points.specs.declared.graph.Summary.{Summary}
+use Rattle.points.specs.Bundles.{LieInMemory}
 use Rattle.points.specs.Machine.{Setting}
 use Rattle.points.specs.Kinds.{block_at}
 use Rattle.points.specs.Bodies.{code_of, Body}
@@ -17,10 +17,6 @@ use Rattle.points.specs.Summaries.{Summarized, IsCallee, HasRef, HasMod, AreSumm
 -- the program of a setting, with these tables and roots
 abbrev pub summarized : Setting → (ℕ → List ℕ) → List ℕ → Summarized
 summarized setting table roots = record { code = code_of setting table; roots = roots; machine = setting.machine; conv = setting.conv }
-
--- the bytes that no store changes lie below 2^32
-abbrev pub LieInMemory : Frozen → Type 0
-LieInMemory frozen = All (λ p. p.base + length p.bytes ≤ 2 ^ 32) frozen.parts
 
 -- what is assigned is named
 abbrev pub assigned_is_named : Type 0

@@ -1,5 +1,5 @@
 -- How instructions jump: plain jumps, calls and returns, to constant and to computed targets.
--- The SPARC Architecture Manual, Version 8, "Call and Link Instruction", "Jump and Link Instruction", "Delayed Control-Transfer".
+-- The SPARC Architecture Manual, Version 8, "Call and Link Instruction", "Jump and Link Instruction", "Delayed Control Transfers".
 use Rattle.std.specs.Prelude.{ℕ, ◌+◌, ◌%◌, ◌^◌, ◌==◌, ◌&&◌, Bool, true, false, not, is_some, if◌then◌else◌, List, [], ◌∷◌, Option, Some, None, Result, Ok, Err}
 use Rattle.std.specs.List.{list_any}
 use Rattle.std.specs.Option.{option_or}
@@ -28,7 +28,7 @@ use Rattle.points.specs.Machine.{Setting, standing}
 abbrev pub further : ℕ → ℕ → ℕ
 further a bytes = (a + bytes) % 2 ^ 32
 
--- the address behind the delay slot that begins at an address; a machine without delay has none
+-- the address behind the delay slot that begins at an address; without delay slots, the address itself
 abbrev pub past_slot : Option ℕ → ℕ → ℕ
 past_slot None a = a
 past_slot (Some delay) a = further a delay
@@ -60,7 +60,7 @@ constant_value m t = value_or_zero (value_of m [] (λ a. None) t)
 abbrev pub constant_target : Machine → Expr → Option ℕ
 constant_target m e = if is_constant (term_of e) then Some (constant_value m (term_of e)) else None
 
--- the target of a jump
+-- where an act jumps, if it is a jump
 abbrev pub act_target : Act → Option Expr
 act_target (Jump e) = Some e
 act_target _ = None
@@ -81,23 +81,23 @@ abbrev pub is_link : Option ℕ → ℕ → Bool
 is_link None c = false
 is_link (Some link) c = c == link
 
--- an act by which a procedure gives up its own return address: it assigns the link cell, or restores the caller's window
-abbrev pub gives_up_return : Option ℕ → Act → Bool
-gives_up_return link (SetCell c e) = is_link link c
-gives_up_return link (SetSlice c lo hi e) = is_link link c
-gives_up_return link WinRestore = true
-gives_up_return link _ = false
+-- an act that replaces the return address of the procedure: it assigns the link cell, or restores the caller's window
+abbrev pub replaces_return : Option ℕ → Act → Bool
+replaces_return link (SetCell c e) = is_link link c
+replaces_return link (SetSlice c lo hi e) = is_link link c
+replaces_return link WinRestore = true
+replaces_return link _ = false
 
 -- an instruction by which it does so, whatever the guards
-abbrev pub standing_gives_up : Option ℕ → Standing → Bool
-standing_gives_up link Outside = false
-standing_gives_up link Illegal = false
-standing_gives_up link (Stands inst) = list_any (λ t. gives_up_return link t.act) inst.transfers
+abbrev pub standing_replaces_return : Option ℕ → Standing → Bool
+standing_replaces_return link Outside = false
+standing_replaces_return link Illegal = false
+standing_replaces_return link (Stands inst) = list_any (λ t. replaces_return link t.act) inst.transfers
 
 -- on a machine with delay, a call whose slot begins at `next` hands the caller's return address on to the procedure
 -- that it enters: a sibling call, which is a plain jump
 abbrev pub is_sibling : Setting → ℕ → Bool
-is_sibling setting next = is_some setting.machine.delay && standing_gives_up setting.conv.link (standing setting next)
+is_sibling setting next = is_some setting.machine.delay && standing_replaces_return setting.conv.link (standing setting next)
 
 -- what an instruction's jump is for: a constructor that is named for both makes calls
 abbrev pub manner_of : Setting → GroundInst → Manner

@@ -4,7 +4,7 @@ ghost use Rattle.std.specs.List.{list_any};
 ghost use Rattle.std.specs.Option.{option_copied};
 ghost use Rattle.rtl_core.specs.SoundTerms.{AreSoundTransfers};
 ghost use Rattle.points.specs.Bundles.{setting_of, IsSoundBundle};
-ghost use Rattle.points.specs.Kinds.{past_slot, jump_target, kind_by, is_named, is_link, gives_up_return, standing_gives_up, is_sibling, manner_of, return_address, kind_of, block_at, second};
+ghost use Rattle.points.specs.Kinds.{past_slot, jump_target, kind_by, is_named, is_link, replaces_return, standing_replaces_return, is_sibling, manner_of, return_address, kind_of, block_at, second};
 
 use crate::block::{Block, JumpKind, Standing};
 use crate::constants::constant_target;
@@ -24,7 +24,7 @@ pub enum Manner {
 
 /// What stands at an address, with how it jumps. The error is want of memory.
 ///
-/// On a machine with delay, a call whose slot gives up the caller's own return address is a plain jump: the procedure
+/// On a machine with delay, a call whose slot replaces the return address of the caller is a plain jump: the procedure
 /// that it enters returns for the caller (The SPARC Architecture Manual, Version 8, "Call and Link Instruction", "SAVE and RESTORE Instructions").
 #[tactic(auto, unfolding(crate::specs::Kinds::block_at))]
 pub fn block_at(alloc: Global, on: &Bundle, pc: u32) -> Result<Block, AllocError>
@@ -119,27 +119,27 @@ fn is_sibling(alloc: Global, on: &Bundle, next: u32) -> Result<bool, AllocError>
         return Ok(false);
     }
     let standing = standing_at(alloc, on, next)?;
-    Ok(standing_gives_up(on.conv.link, &standing))
+    Ok(standing_replaces_return(on.conv.link, &standing))
 }
 
-/// Whether an instruction gives up the return address of its procedure, whatever its guards.
-fn standing_gives_up(link: Option<u8>, standing: &Standing) -> bool
-    ensures { result ≡ standing_gives_up link standing.now }
+/// Whether an instruction replaces the return address of its procedure, whatever its guards.
+fn standing_replaces_return(link: Option<u8>, standing: &Standing) -> bool
+    ensures { result ≡ standing_replaces_return link standing.now }
 {
     match standing {
         Standing::Outside | Standing::Illegal => false,
-        Standing::Stands(inst) => any_gives_up(link, inst.transfers.as_slice()),
+        Standing::Stands(inst) => any_replaces_return(link, inst.transfers.as_slice()),
     }
 }
 
-fn any_gives_up(link: Option<u8>, transfers: &[Transfer]) -> bool
-    ensures { result ≡ list_any (λ t. gives_up_return link t.act) transfers.now }
+fn any_replaces_return(link: Option<u8>, transfers: &[Transfer]) -> bool
+    ensures { result ≡ list_any (λ t. replaces_return link t.act) transfers.now }
 {
-    transfers.iter().any(|t| gives_up_return(link, &t.act))
+    transfers.iter().any(|t| replaces_return(link, &t.act))
 }
 
-fn gives_up_return(link: Option<u8>, act: &Act) -> bool
-    ensures { result ≡ gives_up_return link act.now }
+fn replaces_return(link: Option<u8>, act: &Act) -> bool
+    ensures { result ≡ replaces_return link act.now }
 {
     match act {
         Act::SetCell(c, _) | Act::SetSlice(c, _, _, _) => is_link(link, *c),
