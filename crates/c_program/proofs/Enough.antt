@@ -37,7 +37,7 @@ module _ (setting : Setting) (table : ℕ → List ℕ) (roots : List ℕ) (g : 
   has-summary none = no-key (λ s. s.entry) sums entry (subst (λ es. Contains es entry) (sym (entries-same setting table roots g sums are)) (d.graph.procs.whole entry (Procedure.root at_root))) none
 
   -- the temporaries of each node are few
-  few-needed : All (λ n. block_need n.block ≤ most_temporaries) g.nodes
+  pub few-needed : All (λ n. block_need n.block ≤ most_temporaries) g.nodes
   few-needed k n within = by (get_or g.nodes k n) (d.graph.blocks k n within) (All-contains (IsReached code roots) (points_of g.nodes) (get_or g.nodes k n).point d.graph.nodes.sound (k, inside, Rattle.std.proofs.lemmas.List.get_or-map (λ (n : Node). n.point) g.nodes k n (get_or g.nodes k n).point within))
     where
       inside : k < length (points_of g.nodes)

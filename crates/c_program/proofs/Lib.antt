@@ -13,5 +13,6 @@ pub mod Sourcing
 pub mod Showing
 pub mod Enough
 pub mod BlockLookups
+pub mod AllBlocks
 pub mod ProcedureFunctions
 pub mod GraphFunctions

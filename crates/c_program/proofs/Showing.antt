@@ -60,7 +60,7 @@ summary-of (t ∷ ss) others h s i = by (split-in t s ss i) (summary-of ss other
         (ap (λ b. if b then t.refs else refs_of ss others s.entry) e ∙ rest.0, ap (λ b. if b then t.mods else mods_of ss others s.entry) e ∙ rest.1)
 
 -- a pad stands near its return address
-near : (back bytes s : ℕ) → back < 2 ^ 32 → bytes ≤ 32 → s ≡ further back bytes → pad_by back (Some s) < 2 ^ 31
+pub near : (back bytes s : ℕ) → back < 2 ^ 32 → bytes ≤ 32 → s ≡ further back bytes → pad_by back (Some s) < 2 ^ 31
 near back bytes s lt few is =
     let same : (further back bytes + (2 ^ 32 - back)) % 2 ^ 32 ≡ bytes = grind (arith, lt, few) in
     subst (λ k. (k + (2 ^ 32 - back)) % 2 ^ 32 < 2 ^ 31) (sym is) (omega (arith, same, few))

@@ -54,7 +54,7 @@ SmallCourse (On p) = SmallPoint p
 SmallCourse (Arriving slot) = SmallSlot slot
 SmallCourse Couples = Unit {0}
 
-abbrev SmallKind : JumpKind → Type 0
+abbrev pub SmallKind : JumpKind → Type 0
 SmallKind (JumpKind.To t) = t < 2 ^ 32
 SmallKind (JumpKind.CallTo t back) = (t < 2 ^ 32) × (back < 2 ^ 32)
 SmallKind (JumpKind.CallDyn back) = back < 2 ^ 32
@@ -189,7 +189,7 @@ module _ (setting : Setting) (table : ℕ → List ℕ) (sound : AreSoundTogethe
   code = code_of setting table
 
   -- the targets of an instruction
-  kind-small : (pc : ℕ) (inst : GroundInst) (kind : JumpKind) → pc < 2 ^ 32 → block_at setting pc ≡ Block.Inst inst kind → SmallKind kind
+  pub kind-small : (pc : ℕ) (inst : GroundInst) (kind : JumpKind) → pc < 2 ^ 32 → block_at setting pc ≡ Block.Inst inst kind → SmallKind kind
   kind-small pc inst kind lt e = subst SmallKind (sym (kind-at setting inst pc kind e)) (by (jump_target inst.transfers) (jump-sound m inst.transfers transfers.each))
     where
       at : standing setting pc ≡ Rattle.points.specs.declared.block.Standing.TheVariants.Stands inst

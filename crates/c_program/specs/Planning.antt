@@ -3,6 +3,7 @@ use Rattle.std.specs.Prelude.{ℕ, ◌^◌, ◌<◌, ◌≤◌, List, length, ma
 use Rattle.std.specs.List.{Contains}
 use Rattle.rtl_core.specs.FirstMemory.{Part}
 use Rattle.rtl_core.specs.SoundConv.{AreSoundTogether}
+use Rattle.points.specs.Bundles.{LieInMemory}
 use Rattle.points.specs.declared.graph.Graph.{Graph}
 use Rattle.points.specs.declared.graph.Proc.{Proc}
 use Rattle.points.specs.declared.graph.Summary.{Summary}
@@ -16,7 +17,7 @@ use Rattle.c_lang.specs.State.{has}
 use Rattle.c_control.specs.Plans.{Plan}
 use Rattle.c_control.specs.Programs.{IsPlanned, IsSame, segment_of}
 use Rattle.params.specs.ByEntry.{AreMoving, plan_of}
-use Rattle.params.specs.SummaryLaws.{LieInMemory, summarized}
+use Rattle.params.specs.SummaryLaws.{summarized}
 use Rattle.c_program.specs.Trees.{tree_of}
 use Rattle.c_program.specs.Whole.{program_of}
 
