@@ -1,0 +1,9 @@
+pub mod Images
+pub mod Guards
+pub mod ItsFunctions
+pub mod Walking
+pub mod Controls
+pub mod Blocks
+pub mod GraphPerforming
+pub mod ItsCells
+pub mod FullShape
