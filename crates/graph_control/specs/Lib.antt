@@ -1,0 +1,5 @@
+pub mod Charts
+pub mod Finding
+pub mod OpenCalls
+pub mod Programs
+pub mod Ways
