@@ -1,0 +1,5 @@
+pub mod Serving
+pub mod Stepping
+pub mod Beginning
+pub mod Stretches
+pub mod Going

@@ -1,0 +1,4 @@
+pub mod Shown
+pub mod Guests
+pub mod Doing
+pub mod Ran
