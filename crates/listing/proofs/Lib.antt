@@ -1,0 +1,4 @@
+pub mod Loops
+pub mod OneTable
+pub mod Texts
+pub mod GraphListable
