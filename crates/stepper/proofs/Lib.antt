@@ -3,3 +3,4 @@ pub mod Serving
 pub mod FirstCells
 pub mod Stretches
 pub mod Going
+pub mod LineLaws

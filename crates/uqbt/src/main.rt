@@ -9,7 +9,7 @@ use std::process::ExitCode;
 use uqbt_top::{Outcome, uqbt_main};
 
 const HELP: &[u8] =
-    b"usage: uqbt translate SLED SSL CONV EXE\n       uqbt run SLED SSL CONV EXE N\n       uqbt check SLED SSL CONV\n";
+    b"usage: uqbt translate SLED SSL CONV EXE\n       uqbt run SLED SSL CONV EXE N\n       uqbt check SLED SSL CONV\n       uqbt text NAME\n";
 
 const VERSION: &[u8] = b"uqbt 0.1.0\n";
 

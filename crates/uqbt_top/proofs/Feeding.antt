@@ -4,12 +4,14 @@ use Rattle.std.specs.Prelude.{MatchOption}
 use Rattle.edge_io.specs.Input.{Input}
 use Rattle.edge_io.specs.Output.{Output}
 use Rattle.uqbt_top.specs.declared.outcome.Outcome.{Outcome}
-use Rattle.uqbt_top.specs.declared.outcome.Outcome.TheVariants.{Done, Ran, Spent, Usage, Description, Executable, InputTooLong, FileTooLong, NoMemory, WriteFault, ReadFault}
-use Rattle.uqbt_top.specs.Command.{Command, Translate, Run, Check, command_of}
+use Rattle.uqbt_top.specs.declared.outcome.Outcome.TheVariants.{Done, Ran, Agreed, Differs, Spent, Usage, Description, Executable, InputTooLong, FileTooLong, NoMemory, WriteFault, ReadFault}
+use Rattle.command_words.specs.Forms.{Command, Translate, Run, Check, Text}
+use Rattle.uqbt_top.specs.Command.{command_of}
 use Rattle.uqbt_top.specs.Built.{Descriptions}
 use Rattle.load_image.specs.declared.image.Image.{Image}
 use Rattle.descriptions.specs.declared.described.Described.{Described}
-use Rattle.uqbt_top.specs.Running.{CameWithin, ImageRan, RunDid}
+use Rattle.uqbt_top.specs.WholeInput.{CameWithin}
+use Rattle.uqbt_top.specs.Running.{ImageRan, RunDid}
 use Rattle.uqbt_top.specs.Causes.{Around, AllRead, CommandCaused, Caused}
 use Rattle.uqbt_top.specs.Fed.{TooLongIsExact}
 
@@ -35,18 +37,20 @@ by_run t exe n input input' out out' (Description file fault) did = stayed (Desc
 by_run t exe n input input' out out' (Executable fault) did = stayed (Executable fault) input input' did.1
 by_run t exe n input input' out out' NoMemory (inl still) = stayed NoMemory input input' still.0
 by_run t exe n input input' out out' NoMemory (inr w) = some_came w.described w.image n input input' out out' w.did
-by_run t exe n input input' out out' Done did = absurd did.did
-by_run t exe n input input' out out' Usage did = absurd did.did
-by_run t exe n input input' out out' (FileTooLong file) did = absurd did.did
+by_run t exe n input input' out out' o did = absurd did.did
 
 by_command : (command : Command) (a : Around) (o : Outcome) → AllRead command a o → TooLongIsExact a.input a.input' o
-by_command (Translate sled ssl conv exe) a o all = stayed o a.input a.input' all.did.1
-by_command (Check sled ssl conv) a o all = stayed o a.input a.input' all.did.1
-by_command (Run sled ssl conv exe steps) a o all = by_run all.did.texts all.did.exe steps a.input a.input' a.out a.out' o all.did.did
+by_command (Translate files) a o all = stayed o a.input a.input' all.did.1
+by_command (Check texts) a o all = stayed o a.input a.input' all.did.1
+by_command (Run files steps) a o all = by_run all.did.texts all.did.exe steps a.input a.input' a.out a.out' o all.did.did
+by_command (Text name) a o all = stayed o a.input a.input' all.did.1
+by_command command a o all = absurd all.did
 
 by_answer : (command : Command) (a : Around) (o : Outcome) → CommandCaused command a o → TooLongIsExact a.input a.input' o
 by_answer command a Done did = by_command command a Done did
 by_answer command a (Ran stop) did = by_command command a (Ran stop) did
+by_answer command a (Agreed stop) did = by_command command a (Agreed stop) did
+by_answer command a (Differs at) did = by_command command a (Differs at) did
 by_answer command a Spent did = by_command command a Spent did
 by_answer command a Usage did = absurd did
 by_answer command a (Description file fault) did = by_command command a (Description file fault) did

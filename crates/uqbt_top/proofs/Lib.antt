@@ -5,4 +5,4 @@ pub mod BuiltLaws
 pub mod RunLaws
 pub mod Answered
 pub mod Feeding
-pub mod Digits
+pub mod ShippingLaws

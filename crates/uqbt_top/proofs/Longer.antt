@@ -5,12 +5,13 @@ use Rattle.std.proofs.lemmas.Bool.{lt-ltb, le-ltb}
 use Rattle.edge_io.specs.Files.{Files, IsFile, IsLonger}
 use Rattle.uqbt_top.specs.Message.{limit_of}
 use Rattle.uqbt_top.specs.Wanted.{Wanted, AreFiles}
-use Rattle.uqbt_top.specs.Command.{Command, command_of, files_of}
+use Rattle.command_words.specs.Forms.{Command}
+use Rattle.uqbt_top.specs.Command.{command_of, files_of}
 use Rattle.uqbt_top.specs.Causes.{Around, AllRead, CommandCaused, Caused}
 use Rattle.uqbt_top.specs.Longest.{long_or, first_long, LongIsExact}
 use Rattle.uqbt_top.specs.declared.outcome.FileName.{FileName}
 use Rattle.uqbt_top.specs.declared.outcome.Outcome.{Outcome}
-use Rattle.uqbt_top.specs.declared.outcome.Outcome.TheVariants.{Done, Ran, Spent, Usage, Description, Executable, InputTooLong, FileTooLong, NoMemory, WriteFault, ReadFault}
+use Rattle.uqbt_top.specs.declared.outcome.Outcome.TheVariants.{Done, Ran, Agreed, Differs, Spent, Usage, Description, Executable, InputTooLong, FileTooLong, NoMemory, WriteFault, ReadFault}
 
 -- a file that is there and within its limit is passed
 passed_by : (files : Files) (w : Wanted) (bytes : List ℕ) (rest : Option FileName) → IsFile (Some files) w.name (limit_of w.file) bytes
@@ -66,6 +67,8 @@ by_answer : (files : Files) (command : Command) (a : Around) (e : Outcome) (file
     → a.told ≡ Some files → CommandCaused command a e → first_long files (files_of command) ≡ Some file → a.names'.failed ≡ a.names.failed → Told e file
 by_answer files command a Done file told did is kept = by_reading files command a Done file told did is
 by_answer files command a (Ran stop) file told did is kept = by_reading files command a (Ran stop) file told did is
+by_answer files command a (Agreed stop) file told did is kept = by_reading files command a (Agreed stop) file told did is
+by_answer files command a (Differs at) file told did is kept = by_reading files command a (Differs at) file told did is
 by_answer files command a Spent file told did is kept = by_reading files command a Spent file told did is
 by_answer files command a Usage file told did is kept = absurd did
 by_answer files command a (FileTooLong f) file told did is kept =

@@ -1,5 +1,5 @@
 -- What a run of the machine shows, and how the answers of `run` follow from it.
-use Rattle.std.proofs.Common.{◌≡◌, ◌⊎◌, inl, inr, ℕ, ◌+◌, ◌-◌, Bool, true, false, List, [], ◌++◌, length, map, Some, refl, sym, ap, ◌∙◌, subst, arith}
+use Rattle.std.proofs.Common.{◌≡◌, ◌⊎◌, inl, inr, ℕ, ◌+◌, ◌-◌, Bool, true, false, true≢false, List, [], ◌++◌, length, map, Some, refl, sym, ap, ◌∙◌, subst, arith}
 use Rattle.std.proofs.Math.Path.{fun_ext}
 use Rattle.std.proofs.lemmas.Bool.{le-ltb, leb-true}
 use Rattle.std.specs.Prelude.{nat_le, nat_lt, ◌&&◌, if◌then◌else◌, slice_index, Result, Ok, Err, IfOk, IfErr, OnErr}
@@ -17,20 +17,22 @@ use Rattle.rtl_core.specs.declared.stop.RunEnd.TheVariants as end
 use Rattle.points.specs.Machine.{Setting, State, MNext, step, first_state, machine_run}
 use Rattle.elf32.specs.declared.elf.Elf.{Elf}
 use Rattle.space.specs.Ranges.{memory_of}
+use Rattle.program_graph.specs.Described.{most_points}
 use Rattle.load_image.specs.Made.{image_of}
 use Rattle.load_image.specs.Mapped.{AreBuildable, segment_part}
 use Rattle.load_image.specs.declared.image.Image.{Image}
-use Rattle.c_emit.specs.Line.{ends_within}
+use Rattle.stepper.specs.LineEnds.{ends_within}
 use Rattle.descriptions.specs.declared.described.Described.{Described}
 use Rattle.stepper.specs.Shown.{Shown, state_of}
 use Rattle.stepper.specs.Ran.{ran, written, Came, Took, TookPrefix}
 use Rattle.uqbt_top.specs.declared.outcome.ExeFault.TheVariants.{Elf as InElf, AreaOverlap, TooLarge}
 use Rattle.uqbt_top.specs.declared.outcome.Outcome.{Outcome}
-use Rattle.uqbt_top.specs.declared.outcome.Outcome.TheVariants.{Done, Ran, Spent, Usage, Description, Executable, InputTooLong, FileTooLong, NoMemory, WriteFault, ReadFault}
-use Rattle.uqbt_top.specs.Built.{Descriptions, AreOf, AreRefused, IsExeFault, IsImageOf, IsRefusedExe, setting_with, parts_of, most_points}
-use Rattle.uqbt_top.specs.Running.{BrokeOff, HasMemory, IsInput, IsUntouched, LineRan, LoadedRan, MachineRan, NoInput, RunDid, StoppedSo, TookSome, WentOn, WithImage, image_memory, no_block, outcome_of_run, seen}
+use Rattle.uqbt_top.specs.declared.outcome.Outcome.TheVariants.{Done, Ran, Agreed, Differs, Spent, Usage, Description, Executable, InputTooLong, FileTooLong, NoMemory, WriteFault, ReadFault}
+use Rattle.uqbt_top.specs.Built.{Descriptions, AreOf, AreRefused, IsFileFault, IsImageOf, IsRefusedExe, LineIsOver, setting_with, parts_of}
+use Rattle.uqbt_top.specs.WholeInput.{IsInput, NoInput}
+use Rattle.uqbt_top.specs.Running.{BrokeOff, HasMemory, IsUntouched, LineRan, LoadedRan, MachineRan, RunDid, StoppedSo, TookSome, WentOn, WithImage, image_memory, no_block, outcome_of_run, seen}
 use Rattle.stepper.proofs.Going.{took-none}
-use Rattle.uqbt_top.proofs.BuiltLaws.{setting_by}
+use Rattle.uqbt_top.proofs.BuiltLaws.{file-fault, setting_by}
 
 -- ---- the machine
 
@@ -91,20 +93,17 @@ image_has_memory d i elf is buildable m = record {
   memory = m ∙ ap (λ ss. parts_memory (map segment_part ss ++ areas d.conv)) (sym (ap (λ x. x.segments) is)) ∙ sym (no_block_put d.conv (parts_memory (parts_of i ++ areas d.conv)));
 }
 
+-- a line that ends is not over
+not-over : (d : Described) (i : Image) → ends_within (setting_with d i) most_points i.entry ≡ true → LineIsOver d i → ⊥
+not-over d i short over = true≢false (sym short ∙ over)
+
 -- the input isn't had
 pub no_input_ran : (d : Described) (i : Image) (n : ℕ) (input input' : Input) (out : Output) (o : Outcome) → ends_within (setting_with d i) most_points i.entry ≡ true → NoInput input input' o
     → LoadedRan d i n input input' out out o
-no_input_ran d i n input input' out InputTooLong short none = record { short = short; did = none }
-no_input_ran d i n input input' out ReadFault short none = record { short = short; did = none }
-no_input_ran d i n input input' out NoMemory short none = inr (record { short = short; did = inl (none, refl) })
-no_input_ran d i n input input' out Done short none = absurd none
-no_input_ran d i n input input' out (Ran stop) short none = absurd none
-no_input_ran d i n input input' out Spent short none = absurd none
-no_input_ran d i n input input' out Usage short none = absurd none
-no_input_ran d i n input input' out (Description file fault) short none = absurd none
-no_input_ran d i n input input' out (Executable fault) short none = absurd none
-no_input_ran d i n input input' out (FileTooLong file) short none = absurd none
-no_input_ran d i n input input' out WriteFault short none = absurd none
+no_input_ran d i n input input' out InputTooLong short none = record { within = not-over d i short; did = none }
+no_input_ran d i n input input' out ReadFault short none = record { within = not-over d i short; did = none }
+no_input_ran d i n input input' out NoMemory short none = inr (record { within = not-over d i short; did = inl (none, refl) })
+no_input_ran d i n input input' out o short none = absurd none
 
 -- the machine of an image, by what was built of it
 pub same_view : (d : Described) (i : Image) (n : ℕ) (e : Encodings) (memory : Contents) (bytes : List ℕ) → e ≡ d.encodings → memory ≡ image_memory d i
@@ -117,14 +116,14 @@ pub guest_ran : (d : Described) (i : Image) (n : ℕ) (input input' : Input) (by
     → IsInput input input' bytes → ends_within (setting_with d i) most_points i.entry ≡ true
     → IfOk r (MachineRan view out out') → IfErr r (λ o. o ≡ NoMemory) → OnErr r (TookSome view out out') → LoadedRan d i n input input' out out' (outcome_of_run r)
 guest_ran d i n input input' bytes out out' (Ok (end.Stopped stop)) view v whole short ran refused front =
-    record { short = short; did = record { bytes = bytes; whole = whole; so = subst (λ w. StoppedSo stop w out out') v ran } }
+    record { within = not-over d i short; did = record { bytes = bytes; whole = whole; so = subst (λ w. StoppedSo stop w out out') v ran } }
 guest_ran d i n input input' bytes out out' (Ok end.Spent) view v whole short ran refused front =
-    record { short = short; did = record { bytes = bytes; whole = whole; so = subst (λ w. WentOn w out out') v ran } }
+    record { within = not-over d i short; did = record { bytes = bytes; whole = whole; so = subst (λ w. WentOn w out out') v ran } }
 guest_ran d i n input input' bytes out out' (Ok end.WriteFault) view v whole short ran refused front =
-    record { short = short; did = record { bytes = bytes; whole = whole; so = subst (λ w. BrokeOff w out out') v ran } }
+    record { within = not-over d i short; did = record { bytes = bytes; whole = whole; so = subst (λ w. BrokeOff w out out') v ran } }
 guest_ran d i n input input' bytes out out' (Err o) view v whole short ran refused front =
     subst (LoadedRan d i n input input' out out') (sym refused)
-    (inr (record { short = short; did = inr (record { bytes = bytes; whole = whole; so = subst (λ w. TookSome w out out') v front }) }))
+    (inr (record { within = not-over d i short; did = inr (record { bytes = bytes; whole = whole; so = subst (λ w. TookSome w out out') v front }) }))
 
 -- ---- files
 
@@ -132,34 +131,18 @@ guest_ran d i n input input' bytes out out' (Err o) view v whole short ran refus
 pub run_refused : (t : Descriptions) (exe : List ℕ) (n : ℕ) (input : Input) (out : Output) (o : Outcome) → AreRefused t o → RunDid t exe n input input out out o
 run_refused t exe n input out (Description file fault) r = (r, refl)
 run_refused t exe n input out NoMemory r = inl (refl, refl)
-run_refused t exe n input out Done r = absurd r
-run_refused t exe n input out (Ran stop) r = absurd r
-run_refused t exe n input out Spent r = absurd r
-run_refused t exe n input out Usage r = absurd r
-run_refused t exe n input out (Executable fault) r = absurd r
-run_refused t exe n input out InputTooLong r = absurd r
-run_refused t exe n input out (FileTooLong file) r = absurd r
-run_refused t exe n input out WriteFault r = absurd r
-run_refused t exe n input out ReadFault r = absurd r
+run_refused t exe n input out o r = absurd r
 
 -- an executable that is refused
-pub exe_refused : (t : Descriptions) (exe : List ℕ) (d : Described) (n : ℕ) (input : Input) (out : Output) (o : Outcome) → AreOf t d → IsRefusedExe (IsExeFault d exe) o
+pub exe_refused : (t : Descriptions) (exe : List ℕ) (d : Described) (n : ℕ) (input : Input) (out : Output) (o : Outcome) → AreOf t d → IsRefusedExe (IsFileFault d exe) o
     → RunDid t exe n input input out out o
-exe_refused t exe d n input out (Executable fault) of r = (record { described = d; of = of; first = r }, refl)
+exe_refused t exe d n input out (Executable fault) of r = (record { described = d; of = of; first = file-fault LineIsOver d exe fault r }, refl)
 exe_refused t exe d n input out NoMemory of r = inl (refl, refl)
-exe_refused t exe d n input out Done of r = absurd r
-exe_refused t exe d n input out (Ran stop) of r = absurd r
-exe_refused t exe d n input out Spent of r = absurd r
-exe_refused t exe d n input out Usage of r = absurd r
-exe_refused t exe d n input out (Description file fault) of r = absurd r
-exe_refused t exe d n input out InputTooLong of r = absurd r
-exe_refused t exe d n input out (FileTooLong file) of r = absurd r
-exe_refused t exe d n input out WriteFault of r = absurd r
-exe_refused t exe d n input out ReadFault of r = absurd r
+exe_refused t exe d n input out o of r = absurd r
 
 module _ (t : Descriptions) (exe : List ℕ) (d : Described) (i : Image) (n : ℕ) (input input' : Input) (out out' : Output) (of : AreOf t d) (loaded : IsImageOf d exe i) where
   with_image : (o : Outcome) → LineRan d i n input input' out out' o → WithImage t exe n input input' out out' o
-  with_image o line = record { described = d; image = i; runnable = record { of = of; loaded = loaded; short = line.short }; did = line.did }
+  with_image o line = record { described = d; image = i; runnable = record { of = of; loaded = loaded; within = line.within }; did = line.did }
 
   by_memory : IsUntouched input input' out out' ⊎ LineRan d i n input input' out out' NoMemory → RunDid t exe n input input' out out' NoMemory
   by_memory (inl still) = inl still
@@ -168,7 +151,7 @@ module _ (t : Descriptions) (exe : List ℕ) (d : Described) (i : Image) (n : �
   -- what was done with an image was done with its file
   pub loaded_ran : (o : Outcome) → LoadedRan d i n input input' out out' o → RunDid t exe n input input' out out' o
   loaded_ran (Executable (TooLarge points)) did =
-      (record { described = d; of = of; first = record { image = i; loaded = loaded; over = did.0 } }, did.1)
+      (record { described = d; of = of; first = record { number = did.0; image = i; loaded = loaded; so = did.1 } }, did.2)
   loaded_ran (Executable (InElf fault)) did = absurd did.did
   loaded_ran (Executable (AreaOverlap index)) did = absurd did.did
   loaded_ran NoMemory did = by_memory did
@@ -178,6 +161,8 @@ module _ (t : Descriptions) (exe : List ℕ) (d : Described) (i : Image) (n : �
   loaded_ran InputTooLong did = with_image InputTooLong did
   loaded_ran ReadFault did = with_image ReadFault did
   loaded_ran Done did = absurd did.did
+  loaded_ran (Agreed stop) did = absurd did.did
+  loaded_ran (Differs at) did = absurd did.did
   loaded_ran Usage did = absurd did.did
   loaded_ran (Description file fault) did = absurd did.did
   loaded_ran (FileTooLong file) did = absurd did.did

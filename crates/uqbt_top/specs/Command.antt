@@ -1,39 +1,45 @@
--- The form of the words.
-use Rattle.std.specs.Prelude.{ℕ, List, [], ◌∷◌, codes, if◌then◌else◌, Option, Some, None, option_map}
-use Rattle.std.specs.Str.{bytes_eq}
-use Rattle.uqbt_top.specs.Steps.{steps_of}
+-- Which commands are there, and the files of each.
+use Rattle.std.specs.Prelude.{ℕ, List, [], ◌∷◌, ◌++◌, Option, Some, None, option_map}
+use Rattle.std.specs.Option.{option_and_then}
+use Rattle.command_words.specs.Forms.{Texts, Files, Command, Translate, Run, RunC, Both, Versus, ListAll, Check, Sample, Text, form_of}
 use Rattle.uqbt_top.specs.Wanted.{Wanted}
-use Rattle.uqbt_top.specs.declared.outcome.FileName.TheVariants.{Sled, Ssl, Conv, Exe}
+use Rattle.uqbt_top.specs.Shipping.{shipped_text}
+use Rattle.uqbt_top.specs.declared.outcome.FileName.TheVariants.{Sled, Ssl, Conv, Exe, Prog}
 
--- a command and its file words, and the steps of a run
-pub data Command : Type 0 where
-  Translate : (sled ssl conv exe : List ℕ) → Command
-  Run : (sled ssl conv exe : List ℕ) (steps : ℕ) → Command
-  Check : (sled ssl conv : List ℕ) → Command
+-- the commands that are there; any other is told as Usage, and `text` for a name under which nothing is shipped
+abbrev pub there : Command → Option Command
+there (Translate files) = Some (Translate files)
+there (Run files steps) = Some (Run files steps)
+there (Check texts) = Some (Check texts)
+there (Text name) = option_map (λ text. Text name) (shipped_text name)
+there command = None
 
--- the steps that the first and the last word of a run ask for
-abbrev pub run_steps : List ℕ → List ℕ → Option ℕ
-run_steps word steps = if bytes_eq word (codes "run") then steps_of steps else None
-
--- what words ask for: `run SLED SSL CONV EXE N`, `translate SLED SSL CONV EXE`, or `check SLED SSL CONV`
+-- the command that words ask for
 abbrev pub command_of : List (List ℕ) → Option Command
-command_of (word ∷ sled ∷ ssl ∷ conv ∷ exe ∷ steps ∷ []) = option_map (Run sled ssl conv exe) (run_steps word steps)
-command_of (word ∷ sled ∷ ssl ∷ conv ∷ exe ∷ []) = if bytes_eq word (codes "translate") then Some (Translate sled ssl conv exe) else None
-command_of (word ∷ sled ∷ ssl ∷ conv ∷ []) = if bytes_eq word (codes "check") then Some (Check sled ssl conv) else None
-command_of _ = None
+command_of words = option_and_then there (form_of words)
 
 -- the three descriptions
-abbrev pub three_files : List ℕ → List ℕ → List ℕ → List Wanted
-three_files sled ssl conv = record { file = Sled; name = sled } ∷ record { file = Ssl; name = ssl } ∷ record { file = Conv; name = conv } ∷ []
+abbrev pub three_files : Texts → List Wanted
+three_files t = record { file = Sled; name = t.sled } ∷ record { file = Ssl; name = t.ssl } ∷ record { file = Conv; name = t.conv } ∷ []
 
 -- the descriptions and the executable
-abbrev pub four_files : List ℕ → List ℕ → List ℕ → List ℕ → List Wanted
-four_files sled ssl conv exe =
-    record { file = Sled; name = sled } ∷ record { file = Ssl; name = ssl }
-    ∷ record { file = Conv; name = conv } ∷ record { file = Exe; name = exe } ∷ []
+abbrev pub four_files : Files → List Wanted
+four_files f =
+    record { file = Sled; name = f.sled } ∷ record { file = Ssl; name = f.ssl }
+    ∷ record { file = Conv; name = f.conv } ∷ record { file = Exe; name = f.exe } ∷ []
+
+-- a C text
+abbrev pub prog_file : List ℕ → List Wanted
+prog_file name = record { file = Prog; name = name } ∷ []
 
 -- the files of a command, in the order of the words
 abbrev pub files_of : Command → List Wanted
-files_of (Translate sled ssl conv exe) = four_files sled ssl conv exe
-files_of (Run sled ssl conv exe steps) = four_files sled ssl conv exe
-files_of (Check sled ssl conv) = three_files sled ssl conv
+files_of (Translate files) = four_files files
+files_of (Run files steps) = four_files files
+files_of (RunC prog steps) = prog_file prog
+files_of (Both files steps) = four_files files
+files_of (Versus files prog steps) = four_files files ++ prog_file prog
+files_of (ListAll files) = four_files files
+files_of (Check texts) = three_files texts
+files_of (Sample kind number count) = []
+files_of (Text name) = []

@@ -1,7 +1,7 @@
 -- When the input is told as too long.
 use Rattle.std.specs.Prelude.{◌≡◌, ◌+◌, ◌<◌}
 use Rattle.edge_io.specs.Input.{Input}
-use Rattle.uqbt_top.specs.Running.{most_input}
+use Rattle.uqbt_top.specs.WholeInput.{most_input}
 use Rattle.uqbt_top.specs.declared.outcome.Outcome.{Outcome}
 use Rattle.uqbt_top.specs.declared.outcome.Outcome.TheVariants.{InputTooLong}
 

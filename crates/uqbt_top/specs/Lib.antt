@@ -1,10 +1,13 @@
 pub mod Told
 pub mod Message
 pub mod Wanted
-pub mod Steps
+pub mod Shipping
 pub mod Command
 pub mod Built
+pub mod WholeInput
+pub mod Translating
 pub mod Running
+pub mod Checking
 pub mod Causes
 pub mod Longest
 pub mod Fed

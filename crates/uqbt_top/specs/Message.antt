@@ -1,12 +1,12 @@
 -- The number and the line of each answer, and the limits of the files.
-use Rattle.std.specs.Prelude.{ℕ, ◌%◌, List, [], ◌∷◌, ◌++◌, codes}
+use Rattle.std.specs.Prelude.{ℕ, ◌%◌, List, [], ◌∷◌, ◌++◌, codes, decimal, Option, Some}
 use Rattle.uqbt_top.specs.declared.outcome.FileName.{FileName}
 use Rattle.uqbt_top.specs.declared.outcome.FileName.TheVariants.{Sled, Ssl, Conv, Exe, Prog}
 use Rattle.uqbt_top.specs.declared.outcome.Outcome.{Outcome}
-use Rattle.uqbt_top.specs.declared.outcome.Outcome.TheVariants.{Done, Ran, Spent, Usage, Description, Executable, InputTooLong, FileTooLong, NoMemory, WriteFault, ReadFault}
+use Rattle.uqbt_top.specs.declared.outcome.Outcome.TheVariants.{Done, Ran, Agreed, Differs, Spent, Usage, Description, Executable, InputTooLong, FileTooLong, NoMemory, WriteFault, ReadFault}
 use Rattle.rtl_core.specs.declared.stop.Stop.{Stop}
 use Rattle.rtl_core.specs.declared.stop.Stop.TheVariants as stop
-use Rattle.uqbt_top.specs.Told.{desc_words, exe_words, stop_words}
+use Rattle.uqbt_top.specs.Told.{desc_words, exe_words, said_with, stop_words}
 
 -- the status of a stop: that of an exit modulo 256, else 32 and the number of the stop
 abbrev pub stop_status : Stop → ℕ
@@ -28,6 +28,8 @@ stop_status (stop.Undefined item) = 44
 abbrev pub status_of : Outcome → ℕ
 status_of Done = 0
 status_of (Ran s) = stop_status s
+status_of (Agreed s) = stop_status s
+status_of (Differs at) = 78
 status_of Spent = 75
 status_of InputTooLong = 68
 status_of Usage = 64
@@ -50,6 +52,8 @@ file_word Prog = codes "prog"
 abbrev pub said_of : Outcome → List ℕ
 said_of Done = codes "done"
 said_of (Ran s) = codes "ran " ++ stop_words s
+said_of (Agreed s) = codes "agreed " ++ stop_words s
+said_of (Differs at) = said_with (codes "differs") at
 said_of Spent = codes "spent"
 said_of InputTooLong = codes "input-too-long"
 said_of Usage = codes "usage"
@@ -61,8 +65,17 @@ said_of WriteFault = codes "write-fault"
 said_of ReadFault = codes "read-fault"
 
 -- the line that tells an answer
-abbrev pub message_of : Outcome → List ℕ
-message_of outcome = codes "uqbt: " ++ said_of outcome ++ 10 ∷ []
+abbrev pub line_of : Outcome → List ℕ
+line_of outcome = codes "uqbt: " ++ said_of outcome ++ 10 ∷ []
+
+-- the line of an agreement that tells the steps of the C too
+abbrev pub agreed_line : Stop → ℕ → List ℕ
+agreed_line s steps = codes "uqbt: agreed " ++ (stop_words s ++ (codes " steps " ++ (decimal steps ++ 10 ∷ [])))
+
+-- what is told of an answer, and of the steps of the C where an agreement comes with them
+abbrev pub message_of : Outcome → Option ℕ → List ℕ
+message_of (Agreed s) (Some steps) = agreed_line s steps
+message_of outcome steps = line_of outcome
 
 -- pieces one after the other
 abbrev pub joined : List (List ℕ) → List ℕ

@@ -1,9 +1,8 @@
--- What `run` does with a machine and its image, by the answer.
-use Rattle.std.specs.Prelude.{◌≡◌, ◌⊎◌, ℕ, ◌≤◌, ◌<◌, true, List, length, Result, Ok, Err, []}
+-- What `run` does with its files' bytes and the input, by the answer.
+use Rattle.std.specs.Prelude.{◌≡◌, ◌⊎◌, ℕ, List, Result, Ok, Err, []}
 use Rattle.lockstep.specs.Runs.{View, Running, Stopped, HasOutput}
-use Rattle.edge_io.specs.Counts.{Rose}
-use Rattle.edge_io.specs.Told.{IsNothing, followed}
-use Rattle.edge_io.specs.Input.{Input, Gave}
+use Rattle.edge_io.specs.Told.{followed}
+use Rattle.edge_io.specs.Input.{Input}
 use Rattle.edge_io.specs.Output.{Output, TookPart}
 use Rattle.rtl_core.specs.Contents.{Contents}
 use Rattle.rtl_core.specs.FirstMemory.{Block, first_memory}
@@ -15,14 +14,13 @@ use Rattle.points.specs.Machine.{machine_run}
 use Rattle.space.specs.Ranges.{memory_of}
 use Rattle.load_image.specs.Mapped.{AreBuildable}
 use Rattle.load_image.specs.declared.image.Image.{Image}
-use Rattle.c_emit.specs.Line.{ends_within}
-use Rattle.c_emit.specs.Same.{AreBytes}
 use Rattle.descriptions.specs.declared.described.Described.{Described}
 use Rattle.stepper.specs.Ran.{TookPrefix}
 use Rattle.uqbt_top.specs.declared.outcome.ExeFault.TheVariants.{TooLarge}
 use Rattle.uqbt_top.specs.declared.outcome.Outcome.{Outcome}
 use Rattle.uqbt_top.specs.declared.outcome.Outcome.TheVariants.{Description, Executable, NoMemory, Ran, Spent, InputTooLong, WriteFault, ReadFault}
-use Rattle.uqbt_top.specs.Built.{Descriptions, IsFirstFault, IsOver, IsRunnable, IsUnusable, setting_with, parts_of, most_points}
+use Rattle.uqbt_top.specs.Built.{Descriptions, IsFirstFault, IsRunnable, IsUnusable, LineIsOver, setting_with, parts_of, with_exe}
+use Rattle.uqbt_top.specs.WholeInput.{CameMore, CameSome, InputFailed, OnInput}
 
 -- ---- the machine
 
@@ -42,53 +40,6 @@ pub record HasMemory (d : Described) (i : Image) : Type 0 where
 -- what is seen of the machine after n instructions on an input
 abbrev pub seen : Described → Image → ℕ → List ℕ → View Stop
 seen d i n input = machine_run (setting_with d i) (image_memory d i) i.entry input n
-
--- ---- the input
-
--- the most bytes of input
-abbrev pub most_input : ℕ
-most_input = 16777216
-
--- these bytes of the input came, and they are no more than it may have
-pub record CameWithin (input input' : Input) (bytes : List ℕ) : Type 0 where
-  pub gave : Gave input input' bytes
-  pub within : length bytes ≤ most_input
-
--- more bytes came than the input may have
-pub record CameMore (input input' : Input) : Type 0 where
-  pub bytes : List ℕ
-  pub gave : Gave input input' bytes
-  pub more : most_input < length bytes
-
--- the input failed
-pub record InputFailed (input input' : Input) : Type 0 where
-  pub bytes : List ℕ
-  pub came : CameWithin input input' bytes
-  pub rose : Rose input.faults input'.faults
-
--- these bytes are the whole input, and they are no more than it may have
-pub record IsInput (input input' : Input) (bytes : List ℕ) : Type 0 where
-  pub are_bytes : AreBytes bytes
-  pub came : CameWithin input input' bytes
-  pub end : IsNothing input'.left
-
--- some bytes came that are no more than it may have
-pub record CameSome (input input' : Input) : Type 0 where
-  pub bytes : List ℕ
-  pub came : CameWithin input input' bytes
-
--- why the input isn't had, by the answer
-abbrev pub NoInput : Input → Input → Outcome → Type 0
-NoInput input input' InputTooLong = CameMore input input'
-NoInput input input' ReadFault = InputFailed input input'
-NoInput input input' NoMemory = CameSome input input'
-NoInput input input' _ = ⊥
-
--- the whole input came, and this is so of what the machine does on it
-pub record OnInput (input input' : Input) (holds : List ℕ → Type 0) : Type 0 where
-  pub bytes : List ℕ
-  pub whole : IsInput input input' bytes
-  pub so : holds bytes
 
 -- ---- the run
 
@@ -134,7 +85,7 @@ ImageRan d i n input input' out out' _ = ⊥
 
 -- the line of the image has its end, and this was done with it
 pub record LineRan (d : Described) (i : Image) (n : ℕ) (input input' : Input) (out out' : Output) (outcome : Outcome) : Type 0 where
-  pub short : ends_within (setting_with d i) most_points i.entry ≡ true
+  pub within : LineIsOver d i → ⊥
   pub did : ImageRan d i n input input' out out' outcome
 
 -- nothing was taken or put
@@ -143,7 +94,7 @@ IsUntouched input input' out out' = (input' ≡ input) × (out' ≡ out)
 
 -- the same by the answer, or why it was not
 abbrev pub LoadedRan : Described → Image → ℕ → Input → Input → Output → Output → Outcome → Type 0
-LoadedRan d i n input input' out out' (Executable (TooLarge points)) = IsOver d i points × (input' ≡ input)
+LoadedRan d i n input input' out out' (Executable (TooLarge points)) = (points ≡ 131073) × LineIsOver d i × (input' ≡ input)
 LoadedRan d i n input input' out out' NoMemory = IsUntouched input input' out out' ⊎ LineRan d i n input input' out out' NoMemory
 LoadedRan d i n input input' out out' outcome = LineRan d i n input input' out out' outcome
 
@@ -153,15 +104,22 @@ LoadedRan d i n input input' out out' outcome = LineRan d i n input input' out o
 pub record WithImage (t : Descriptions) (exe : List ℕ) (n : ℕ) (input input' : Input) (out out' : Output) (outcome : Outcome) : Type 0 where
   pub described : Described
   pub image : Image
-  pub runnable : IsRunnable t exe described image
+  pub runnable : IsRunnable LineIsOver t exe described image
   pub did : ImageRan described image n input input' out out' outcome
 
 -- what `run` did with the files' bytes, by the answer
 abbrev pub RunDid : Descriptions → List ℕ → ℕ → Input → Input → Output → Output → Outcome → Type 0
 RunDid t exe n input input' out out' (Description file fault) = IsFirstFault t file fault × (input' ≡ input)
-RunDid t exe n input input' out out' (Executable fault) = IsUnusable t exe fault × (input' ≡ input)
+RunDid t exe n input input' out out' (Executable fault) = IsUnusable LineIsOver t exe fault × (input' ≡ input)
 RunDid t exe n input input' out out' NoMemory = IsUntouched input input' out out' ⊎ WithImage t exe n input input' out out' NoMemory
 RunDid t exe n input input' out out' outcome = WithImage t exe n input input' out out' outcome
+
+-- the bytes of the files of `run`, and what was done with them
+pub record RunRead (bytes : List (List ℕ)) (steps : ℕ) (input input' : Input) (out out' : Output) (outcome : Outcome) : Type 0 where
+  pub texts : Descriptions
+  pub exe : List ℕ
+  pub whole : bytes ≡ with_exe texts exe
+  pub did : RunDid texts exe steps input input' out out' outcome
 
 -- how a run ended, as an answer of the program
 abbrev pub outcome_of_end : RunEnd → Outcome

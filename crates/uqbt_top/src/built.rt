@@ -1,24 +1,27 @@
 //! What is built of the files.
-ghost use Rattle.std.specs.Prelude.{◌≡◌, ◌<◌, ◌≤◌, ◌-◌, ◌^◌, length, map, true, All, IfOk, IfErr};
+ghost use Rattle.std.specs.Prelude.{◌≡◌, ◌<◌, ◌≤◌, ◌-◌, ◌^◌, length, map, All, IfOk, IfErr, OnOk};
 ghost use Rattle.rtl_core.specs.SoundConv.{AreSoundTogether};
 ghost use Rattle.c_lang.specs.Spellable.{SegmentFits, SegmentsFit};
-ghost use Rattle.c_emit.specs.Emitted.{IsTranslation};
-ghost use Rattle.c_emit.specs.Line.{ends_within, segment_of};
+ghost use Rattle.c_control.specs.Programs.{segment_of};
 ghost use Rattle.load_image.specs.Mapped.{segment_part};
-ghost use Rattle.uqbt_top.specs.Built.{AreOf, AreRefused, IsExeFault, IsImageOf, IsLong, IsReady, IsRefused, IsRefusedExe, Translates, most_points, parts_of, setting_with};
+ghost use Rattle.c_static.specs.Laws.{ArePlaced};
+ghost use Rattle.translation.specs.Translations.{IsTranslation};
+ghost use Rattle.uqbt_top.specs.Built.{AreOf, AreRefused, BodiesAreOver, IsFileFault, IsImageOf, IsLong, IsReady, IsRefused, IsRefusedExe, Translates, parts_of, setting_with};
 ghost use Rattle.uqbt_top.specs.Running.{HasMemory};
 
 use crate::reading::are_bytes;
 use crate::{ExeFault, FileName, Outcome};
-use c_emit::line_program;
 use c_lang::{CSeg, Program};
+use c_static::segments_are_placed;
 use decode::Bundle;
 use descriptions::{Described, Undescribed, read_descriptions};
 use elf32::{ElfFault, Segment, read_elf};
 use load_image::{Image, ImageFault, make_image};
+use program_graph::DiscoverFault;
 use sled_match::Matcher;
 use sqlite_items::Items;
 use std::alloc::{AllocError, Global};
+use translation::translate;
 
 /// The most points of a program.
 pub const MOST_POINTS: usize = 131_072;
@@ -58,8 +61,10 @@ pub fn loaded(alloc: Global, exe: &[u8], on: &Described) -> Result<Image, Outcom
     ensures image { IfOk result (λ image. IsImageOf on.now exe.now image) }
     ensures ready { IfOk result (λ image. IsReady image) }
     ensures memory { IfOk result (λ image. HasMemory on.now image) }
-    ensures refused { IfErr result (λ o. IsRefusedExe (IsExeFault on.now exe.now) o) }
+    ensures placed { IfOk result (λ image. ArePlaced on.now.conv (parts_of image)) }
+    ensures refused { IfErr result (λ o. IsRefusedExe (IsFileFault on.now exe.now) o) }
 {
+    segments_are_placed();
     let elf = match read_elf(alloc, exe, &on.conv, on.named.machine.order) {
         Ok(elf) => elf,
         Err(ElfFault::NoMemory) => return Err(Outcome::NoMemory),
@@ -108,8 +113,9 @@ fn segments_of(alloc: Global, segments: &[Segment]) -> Result<Items<CSeg>, Alloc
 pub fn program_of(alloc: Global, on: &Described, image: &Image) -> Result<Program, Outcome>
     requires sound { AreSoundTogether on.now.encodings on.now.named.machine on.now.conv }
     requires ready { IsReady image.now }
-    ensures translation { IfOk result (λ p. IsTranslation (setting_with on.now image.now) (parts_of image.now) image.now.entry p) }
-    ensures short { IfOk result (λ _. ends_within (setting_with on.now image.now) most_points image.now.entry ≡ true) }
+    requires placed { ArePlaced on.now.conv (parts_of image.now) }
+    ensures translation { IfOk result (λ p. IsTranslation (setting_with on.now image.now) image.now.entry image.now.symbols (parts_of image.now) p) }
+    ensures within { OnOk result (BodiesAreOver on.now image.now → ⊥) }
     ensures refused { IfErr result (λ o. IsLong on.now image.now o) }
 {
     let matcher = Matcher::build(alloc, &on.encodings)?;
@@ -120,9 +126,18 @@ pub fn program_of(alloc: Global, on: &Described, image: &Image) -> Result<Progra
         frozen: &image.frozen,
     };
     let segments = segments_of(alloc, image.segments.as_slice())?;
-    match line_program(alloc, &bundle, segments, MOST_POINTS, image.entry)? {
-        Some(program) => Ok(program),
-        None => Err(TOO_LARGE),
+    match translate(
+        alloc,
+        &bundle,
+        segments,
+        image.entry,
+        image.symbols.as_slice(),
+    ) {
+        Ok(program) => Ok(program),
+        Err(DiscoverFault::TooLarge { points }) => {
+            Err(Outcome::Executable(ExeFault::TooLarge { points }))
+        }
+        Err(DiscoverFault::NoMemory) => Err(Outcome::NoMemory),
     }
 }
 

@@ -1,4 +1,4 @@
-// What a run of the program answers.
+//! What a run of the program answers.
 ghost use Rattle.std.specs.Prelude.{◌≡◌};
 ghost use Rattle.uqbt_top.specs.Message.{status_of, stop_status, file_word, limit_of};
 
@@ -44,9 +44,16 @@ pub enum ExeFault {
 pub enum Outcome {
     /// All was done.
     Done,
-    /// The machine stopped so within the steps.
+    /// The machine, or the C text, stopped so within the steps.
     Ran(Stop),
-    /// The machine did not stop within the steps.
+    /// The machine stopped so within the steps, and the C text did the same.
+    Agreed(Stop),
+    /// The machine stopped within the steps, and the C text did something else.
+    Differs {
+        /// The length of the longest common front of the two outputs.
+        at: u128,
+    },
+    /// The machine, or the C text, did not stop within the steps.
     Spent,
     /// The words have none of the forms of a command.
     Usage,
@@ -128,7 +135,7 @@ impl Outcome {
     {
         match self {
             Outcome::Done => 0,
-            Outcome::Ran(stop) => stop_status(stop),
+            Outcome::Ran(stop) | Outcome::Agreed(stop) => stop_status(stop),
             Outcome::Usage => 64,
             Outcome::Description { .. } => 65,
             Outcome::Executable(_) => 67,
@@ -137,6 +144,7 @@ impl Outcome {
             Outcome::WriteFault => 73,
             Outcome::ReadFault => 74,
             Outcome::Spent => 75,
+            Outcome::Differs { .. } => 78,
         }
     }
 }

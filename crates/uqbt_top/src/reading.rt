@@ -1,13 +1,15 @@
-// The files of a command.
+//! The files of a command.
 ghost use Rattle.std.specs.Prelude.{◌≡◌, map, All, IfOk, IfErr, OnOk};
-ghost use Rattle.c_emit.specs.Same.{AreBytes};
+ghost use Rattle.c_control.specs.Programs.{AreBytes};
 ghost use Rattle.edge_io.specs.Files.{IsFile};
 ghost use Rattle.uqbt_top.specs.Message.{limit_of};
-ghost use Rattle.uqbt_top.specs.Command.{four_files};
+ghost use Rattle.command_words.specs.Forms.{file_names, text_names};
+ghost use Rattle.uqbt_top.specs.Command.{four_files, three_files};
 ghost use Rattle.uqbt_top.specs.Wanted.{wanted, AreFiles};
 ghost use Rattle.uqbt_top.specs.Causes.{FetchStopped, ReadStopped};
 
 use crate::{FileName, Outcome};
+use command_words::{FileWords, TextWords};
 use edge_io::{Fetch, Store, Word};
 use std::alloc::Global;
 use std::marker::Model;
@@ -49,15 +51,6 @@ pub struct FileWord<'a> {
     pub file: FileName,
     /// The word.
     pub name: &'a Word,
-}
-
-/// The file words of a command on an executable.
-#[derive(Clone, Copy)]
-pub struct FileWords<'a> {
-    pub sled: &'a Word,
-    pub ssl: &'a Word,
-    pub conv: &'a Word,
-    pub exe: &'a Word,
 }
 
 /// The items of a slice of bytes are below 256.
@@ -103,6 +96,35 @@ pub fn read_files<F: Store>(
     Ok(texts)
 }
 
+/// Reads three descriptions, up to the first that isn't given.
+pub fn read_three<F: Store>(
+    alloc: Global,
+    files: &mut F,
+    names: &TextWords<'_>,
+) -> Result<Vec<Text>, Outcome>
+    ensures small { IfOk result (λ texts. All AreBytes texts.items) }
+    ensures read { IfOk result (λ texts. AreFiles (F.files files.old) (three_files (text_names names.now)) texts.items) }
+    ensures kept { OnOk result (F.names files.new ≡ F.names files.old) }
+    ensures stopped { IfErr result (ReadStopped (F.files files.old) (three_files (text_names names.now)) (F.names files.old) (F.names files.new)) }
+    ensures files { F.files files.new ≡ F.files files.old }
+{
+    let words = [
+        FileWord {
+            file: FileName::Sled,
+            name: names.sled,
+        },
+        FileWord {
+            file: FileName::Ssl,
+            name: names.ssl,
+        },
+        FileWord {
+            file: FileName::Conv,
+            name: names.conv,
+        },
+    ];
+    read_files(alloc, files, &words)
+}
+
 /// Reads three descriptions and an executable, up to the first that isn't given.
 pub fn read_four<F: Store>(
     alloc: Global,
@@ -110,9 +132,9 @@ pub fn read_four<F: Store>(
     names: &FileWords<'_>,
 ) -> Result<Vec<Text>, Outcome>
     ensures small { IfOk result (λ texts. All AreBytes texts.items) }
-    ensures read { IfOk result (λ texts. AreFiles (F.files files.old) (four_files names.now.sled.now names.now.ssl.now names.now.conv.now names.now.exe.now) texts.items) }
+    ensures read { IfOk result (λ texts. AreFiles (F.files files.old) (four_files (file_names names.now)) texts.items) }
     ensures kept { OnOk result (F.names files.new ≡ F.names files.old) }
-    ensures stopped { IfErr result (ReadStopped (F.files files.old) (four_files names.now.sled.now names.now.ssl.now names.now.conv.now names.now.exe.now) (F.names files.old) (F.names files.new)) }
+    ensures stopped { IfErr result (ReadStopped (F.files files.old) (four_files (file_names names.now)) (F.names files.old) (F.names files.new)) }
     ensures files { F.files files.new ≡ F.files files.old }
 {
     let words = [

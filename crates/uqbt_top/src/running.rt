@@ -1,4 +1,4 @@
-//! The described machine, run on the input.
+//! The command `run`: the described machine, run on the input.
 ghost use Rattle.std.specs.Prelude.{◌≡◌, ◌<◌, ◌-◌, ◌^◌, length, All, IfOk, IfErr, OnErr};
 ghost use Rattle.rtl_core.specs.SoundConv.{AreSoundTogether};
 ghost use Rattle.points.specs.Machine.{machine_run};
@@ -6,28 +6,54 @@ ghost use Rattle.space.specs.Ranges.{memory_of};
 ghost use Rattle.load_image.specs.Mapped.{AreBuildable};
 ghost use Rattle.points.specs.Bundles.{IsSoundSetting, setting_of};
 ghost use Rattle.uqbt_top.specs.Built.{IsReady};
-ghost use Rattle.uqbt_top.specs.Causes.{RunRead};
-ghost use Rattle.uqbt_top.specs.Running.{HasMemory, IsInput, LoadedRan, MachineRan, NoInput, RunKeepsInput, RunKeepsOut, TookSome, outcome_of_run};
+ghost use Rattle.command_words.specs.Forms.{Run, file_names};
+ghost use Rattle.uqbt_top.specs.Causes.{CommandCaused};
+ghost use Rattle.uqbt_top.specs.Running.{HasMemory, LoadedRan, MachineRan, RunKeepsInput, RunKeepsOut, RunRead, TookSome, outcome_of_run};
 
 use crate::Outcome;
 use crate::built::{MOST_POINTS, TOO_LARGE, described, loaded};
-use crate::reading::{Text, are_bytes};
-use c_emit::line_ends;
+use crate::input::whole_input;
+use crate::reading::{Text, read_four};
+use command_words::FileWords;
 use decode::Bundle;
 use descriptions::Described;
-use edge_io::{ReadEnd, Sink, Source, read_all};
+use edge_io::{Sink, Source, Store};
 use load_image::Image;
 use rtl_core::RunEnd;
 use sled_match::Matcher;
 use space::{Range, Space};
 use std::alloc::Global;
-use stepper::Guest;
+use stepper::{Guest, line_ends};
 
-/// The most bytes of input.
-const MOST_INPUT: u64 = 16_777_216;
+/// Reads the files of an executable, and runs it.
+pub fn run_files<F: Store, S: Source, K: Sink>(
+    alloc: Global,
+    names: &FileWords,
+    steps: u64,
+    files: &mut F,
+    input: &mut S,
+    out: &mut K,
+) -> Result<RunEnd, Outcome>
+    ensures caused { CommandCaused (Run (file_names names.now) steps)
+        (record {
+          told = F.files files.old;
+          names = F.names files.old;
+          names' = F.names files.new;
+          input = S.input input.old;
+          input' = S.input input.new;
+          out = K.output out.old;
+          out' = K.output out.new;
+        }) (outcome_of_run result) }
+    ensures refusal { RunKeepsOut (outcome_of_run result) (out.new ≡ out.old) }
+    ensures files { F.files files.new ≡ F.files files.old }
+    ensures input { RunKeepsInput (outcome_of_run result) (input.new ≡ input.old) }
+{
+    let texts = read_four(alloc, files, names)?;
+    run_texts(alloc, texts.as_slice(), steps, input, out)
+}
 
 /// Runs an executable for some steps on the machine that three texts describe.
-pub fn run_texts<S: Source, K: Sink>(
+fn run_texts<S: Source, K: Sink>(
     alloc: Global,
     texts: &[Text],
     steps: u64,
@@ -86,22 +112,6 @@ fn run_image<S: Source, K: Sink>(
         steps,
         out,
     )
-}
-
-/// All of the input.
-fn whole_input<S: Source>(alloc: Global, input: &mut S) -> Result<Vec<u8>, Outcome>
-    ensures whole { IfOk result (λ bytes. IsInput (S.input input.old) (S.input input.new) bytes.items) }
-    ensures refused { IfErr result (NoInput (S.input input.old) (S.input input.new)) }
-{
-    match read_all(alloc, input, MOST_INPUT) {
-        Ok(bytes) => {
-            are_bytes(bytes.as_slice());
-            Ok(bytes)
-        }
-        Err(ReadEnd::Fault) => Err(Outcome::ReadFault),
-        Err(ReadEnd::TooLong) => Err(Outcome::InputTooLong),
-        Err(ReadEnd::NoMemory) => Err(Outcome::NoMemory),
-    }
 }
 
 /// Runs a machine from its first instruction on, over a memory of ranges.

@@ -15,7 +15,7 @@ use text_lex::LexFault;
 #[derive(Clone, Copy, Debug)]
 pub enum Numbers {
     Nothing,
-    One(u64),
+    One(u128),
     /// A line, and two widths.
     Three(u64, u64, u64),
     Address(u32),
@@ -42,7 +42,7 @@ fn with(word: &'static [u8], number: u64) -> Told
 {
     Told {
         word,
-        numbers: Numbers::One(number),
+        numbers: Numbers::One(u128::from(number)),
     }
 }
 
@@ -61,6 +61,16 @@ fn widths(line: u32, left: u8, right: u8) -> Told
     Told {
         word: b"width-differs",
         numbers: Numbers::Three(u64::from(line), u64::from(left), u64::from(right)),
+    }
+}
+
+/// How a place is told where two outputs differ.
+pub fn difference(at: u128) -> Told
+    ensures { told_words result ≡ said_with (codes "differs") at }
+{
+    Told {
+        word: b"differs",
+        numbers: Numbers::One(at),
     }
 }
 

@@ -32,7 +32,7 @@ use Rattle.points.specs.declared.block.Standing.TheVariants.{Stands}
 use Rattle.points.specs.declared.jumps.Manner.{Manner}
 use Rattle.points.specs.declared.jumps.Manner.TheVariants.{Plain, Calling}
 use Rattle.points.specs.Machine.{standing}
-use Rattle.points.specs.Kinds.{block_of, block_at, kind_of, kind_by, past_slot, standing_gives_up, behind_pad, second}
+use Rattle.points.specs.Kinds.{block_of, block_at, kind_of, kind_by, past_slot, standing_replaces_return, behind_pad, second}
 use Rattle.points.specs.Courses.{point, course}
 use Rattle.points.specs.Control.{Control, Flow, Move, arrived, followed, returned, is_second, kept}
 use Rattle.points.specs.Running.{State, MNext, stops, moved, stepped, step, after_transfers, concluded, finished, performed, service_due, first_state, machine_run}
@@ -201,7 +201,7 @@ module _ (p : Program) (is_procedure : ℕ → Bool) (table : ℕ → List ℕ) 
   -- ---- how it jumps
 
   abbrev calling : ℕ → Manner
-  calling next = if is_some p.delay && standing_gives_up (Some 1) (at next) then Plain else Calling
+  calling next = if is_some p.delay && standing_replaces_return (Some 1) (at next) then Plain else Calling
 
   abbrev kind_at : ℕ → Op → JumpKind
   kind_at pc (jump n) = JumpKind.To n

@@ -4,3 +4,4 @@ pub mod WorkedRuns
 pub mod DeepRuns
 pub mod WorkedNexts
 pub mod FoundProcedures
+pub mod SmallTextRuns

@@ -1,6 +1,7 @@
 //! What control does on worked programs, computed from the definitions alone.
 #![tactic(auto)]
 
+ghost use Rattle.worked_control.specs.SmallText.{TextExitsWithThree, SmallBound};
 ghost use Rattle.worked_control.specs.WorkedPoints.{AtOnce, FromSeq, FromSlot};
 ghost use Rattle.worked_control.specs.WorkedPrograms.{AnnulledJumpPassesSlot, CallListIsFull, CallReturns, ComputedCall, Couples, JumpInSlot, OtherReturnStops, ReturnPastPad, RunsOff, SiblingIsAJump, SlotIsDone, TableLeads, TailReturns, Undelayed, UntakenPassesSlot};
 ghost use Rattle.worked_control.specs.WorkedProcedures.{TailsAreProcedures};
@@ -98,4 +99,14 @@ pub fn at_once()
 /// The procedures of the program with a tail jump are exactly those that its entry, its symbol and its call give.
 pub fn tails_are_procedures()
     ensures { TailsAreProcedures }
+{}
+
+/// A C text of a program of three instructions, run by the definitions of the C text alone.
+pub fn small_text_exits()
+    ensures { TextExitsWithThree }
+{}
+
+/// The bound of the small machine: 5 nodes and 33 cells make 362 steps for an instruction.
+pub fn small_bound()
+    ensures { SmallBound }
 {}

@@ -1,7 +1,7 @@
 use Rattle.std.proofs.Common.{◌≡◌, map, take}
 use Rattle.std.specs.Prelude.{All}
 use Rattle.c_lang.specs.Spellable.{SegmentFits}
-use Rattle.c_emit.specs.Line.{segment_of}
+use Rattle.c_control.specs.Programs.{segment_of}
 use Rattle.load_image.specs.Mapped.{segment_part}
 use Rattle.uqbt_top.proofs.built.segments_of.Given as goal
 

@@ -1,7 +1,7 @@
 use Rattle.std.proofs.Common.{◌∙◌, arith, ◌<◌, length, map, subst}
 use Rattle.std.proofs.lemmas.List.Elements.{All-push}
 use Rattle.std.proofs.lemmas.Result.{err_from_is_err_and}
-use Rattle.c_emit.specs.Same.{AreBytes}
+use Rattle.c_control.specs.Programs.{AreBytes}
 use Rattle.edge_io.specs.Files.{IsFile}
 use Rattle.uqbt_top.specs.Message.{limit_of}
 use Rattle.uqbt_top.specs.Wanted.{wanted}

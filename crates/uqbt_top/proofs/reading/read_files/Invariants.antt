@@ -1,6 +1,6 @@
 use Rattle.std.proofs.Common.{◌≡◌, take, map}
 use Rattle.std.specs.Prelude.{All}
-use Rattle.c_emit.specs.Same.{AreBytes}
+use Rattle.c_control.specs.Programs.{AreBytes}
 use Rattle.uqbt_top.specs.Wanted.{AreFiles, wanted}
 use Rattle.uqbt_top.proofs.reading.read_files.Given as goal
 

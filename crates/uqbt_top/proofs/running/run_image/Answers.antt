@@ -2,14 +2,14 @@ use Rattle.std.proofs.Common.{true, false, refl, sym, ap, subst, ◌∙◌}
 use Rattle.std.proofs.lemmas.Result.{err_from_is_err_and}
 use Rattle.points.specs.Machine.{machine_run}
 use Rattle.space.specs.Ranges.{memory_of}
-use Rattle.uqbt_top.specs.Running.{IsInput}
+use Rattle.uqbt_top.specs.WholeInput.{IsInput}
 use Rattle.uqbt_top.proofs.BuiltLaws.{line_told, setting_by}
 use Rattle.uqbt_top.proofs.RunLaws.{no_input_ran, same_view, guest_ran}
 use Rattle.uqbt_top.proofs.running.run_image.Goals as goal
 
 pub returns-then-not-branch-clause-did : goal.returns-then-not-branch-clause-did
 returns-then-not-branch-clause-did g c =
-    ((refl, line_told c.args.on.now c.args.image.now c.in_ok-matcher.matcher c.in_ok-line_ends.field-0 false c.in_ok-matcher.ensures c.in_ok-line_ends.ensures c.if-not-branch.true), refl)
+    (refl, line_told c.args.on.now c.args.image.now c.in_ok-matcher.matcher c.in_ok-line_ends.field-0 false c.in_ok-matcher.ensures c.in_ok-line_ends.ensures c.if-not-branch.true, refl)
 
 pub returns-in_err-bytes-clause-did : goal.returns-in_err-bytes-clause-did
 returns-in_err-bytes-clause-did g c =

@@ -1,5 +1,0 @@
-pub mod Same
-pub mod SmallText
-pub mod Line
-pub mod LineTheorem
-pub mod Emitted
