@@ -1,0 +1,10 @@
+pub mod Apart
+pub mod Pairs
+pub mod Ascending
+pub mod Spread
+pub mod PlaceLaws
+pub mod RuleLaws
+pub mod MachineLaws
+pub mod ScopeLaws
+pub mod MentionLaws
+pub mod CodeLaws

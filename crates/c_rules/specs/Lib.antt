@@ -1,0 +1,5 @@
+pub mod Parts
+pub mod Distinct
+pub mod Spans
+pub mod Scopes
+pub mod Texts
