@@ -1,0 +1,9 @@
+pub mod Combined
+pub mod Expressions
+pub mod Statements
+pub mod Blocks
+pub mod Functions
+pub mod Pieces
+pub mod Drafts
+pub mod Programs
+pub mod Texts
