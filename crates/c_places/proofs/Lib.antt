@@ -1,0 +1,4 @@
+pub mod Growing
+pub mod Finding
+pub mod Standing
+pub mod LabelLaws
